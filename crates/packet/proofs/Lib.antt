@@ -1,0 +1,5 @@
+pub mod Bits
+pub mod Reading
+pub mod Writing
+pub mod Checking
+pub mod Scanning

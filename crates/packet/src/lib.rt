@@ -1,0 +1,35 @@
+// Words, heads, routes and packets as bits.
+mod words;
+mod sides;
+mod routes;
+mod heads;
+mod faults;
+mod sentences;
+mod packets;
+mod arrivals;
+mod delivered;
+
+pub use words::Kind;
+pub use sides::Side;
+pub use routes::Course;
+pub use routes::Route;
+pub use routes::Sides;
+pub use routes::routes_ending_going_up;
+pub use heads::Head;
+pub use heads::KeyWord;
+pub use heads::Mode;
+pub use faults::DeliveryFault;
+pub use faults::FireFault;
+pub use faults::PacketFault;
+pub use faults::PacketFromRoute;
+pub use faults::Refusal;
+pub use faults::RouteFault;
+pub use faults::TakeFault;
+pub use packets::check;
+pub use arrivals::Arrival;
+pub use delivered::Delivered;
+pub use sentences::DeliveryFaultDisplay;
+pub use sentences::FireFaultDisplay;
+pub use sentences::PacketFaultDisplay;
+pub use sentences::RouteFaultDisplay;
+pub use sentences::TakeFaultDisplay;
