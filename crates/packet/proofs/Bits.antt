@@ -19,9 +19,10 @@ split-top n k = rw (← one-add k) (mod-pow-add n 1 k)
 
 pub top-same : (m n k : ℕ) → m % 2 ^ suc k ≡ n % 2 ^ suc k → (m / 2 ^ k % 2 ≡ n / 2 ^ k % 2) × (m % 2 ^ k ≡ n % 2 ^ k)
 top-same m n k e =
-    let f : m % 2 ^ (1 + k) ≡ n % 2 ^ (1 + k) = rw one-add e in
-    (sym (field m 1 k) ∙ (ap (λ (x : ℕ). x / 2 ^ k) f ∙ field n 1 k),
-     sym (mod-mod-pow m 1 k) ∙ (ap (λ (x : ℕ). x % 2 ^ k) f ∙ mod-mod-pow n 1 k))
+    let f : m % 2 ^ (1 + k) ≡ n % 2 ^ (1 + k) = rw one-add e in (
+      sym (field m 1 k) ∙ (ap (λ (x : ℕ). x / 2 ^ k) f ∙ field n 1 k),
+      sym (mod-mod-pow m 1 k) ∙ (ap (λ (x : ℕ). x % 2 ^ k) f ∙ mod-mod-pow n 1 k),
+    )
 
 -- numbers with the same low bits
 pub bits-same : (k m n : ℕ) → m % 2 ^ k ≡ n % 2 ^ k → bitsFrom k m ≡ bitsFrom k n

@@ -13,8 +13,8 @@ use Rattle.std.specs.declared.option.Option.{Option}
 use Rattle.std.specs.declared.option.Option.the-variants.{Some, None}
 use Rattle.std.specs.declared.result.Result.{Result}
 use Rattle.std.specs.declared.result.Result.the-variants.{Ok, Err}
-use Rattle.packet.specs.declared.faults.PacketFault.{PacketFault}
-use Rattle.packet.specs.declared.faults.PacketFault.the-variants.{Length, Kinds, Reserved}
+use Rattle.refusal.specs.declared.send.PacketFault.{PacketFault}
+use Rattle.refusal.specs.declared.send.PacketFault.the-variants.{Length, Kinds, Reserved}
 use Rattle.packet.specs.Words.{kindOf}
 use Rattle.packet.specs.Packets.{isHead, rightKind, laterFault, kindFault, reservedFault, unlessAt, Header, headerOf, checkPacket, checkParts}
 
@@ -31,18 +31,18 @@ later-none n [] l = refl
 later-none n (w ∷ ws) l = absurd (omega arith)
 
 later-step : (n : ℕ) (ws : List ℕ) → 0 < length ws →
-  laterFault n ws ≡ cond (rightKind (eqb (length (rest ws)) 0) (kindOf (getD ws 0 0))) (laterFault (n + 1) (rest ws)) (Some n)
+    laterFault n ws ≡ cond (rightKind (eqb (length (rest ws)) 0) (kindOf (getD ws 0 0))) (laterFault (n + 1) (rest ws)) (Some n)
 unfolding laterFault
 later-step n ws l = ap (laterFault n) (first-rest ws 0 l)
 
 pub later-right : (n : ℕ) (b : Bool) (ws : List ℕ) → 0 < length ws → b ≡ eqb (length (rest ws)) 0 → true ≡ rightKind b (kindOf (getD ws 0 0)) →
-  laterFault (n + 1) (rest ws) ≡ laterFault n ws
+    laterFault (n + 1) (rest ws) ≡ laterFault n ws
 later-right n b ws l e r =
     let q : rightKind (eqb (length (rest ws)) 0) (kindOf (getD ws 0 0)) ≡ true = ap (λ (x : Bool). rightKind x (kindOf (getD ws 0 0))) (sym e) ∙ sym r in
     sym (later-step n ws l ∙ ap (λ (x : Bool). cond x (laterFault (n + 1) (rest ws)) (Some n)) q)
 
 pub later-wrong : (n : ℕ) (b : Bool) (ws : List ℕ) → 0 < length ws → b ≡ eqb (length (rest ws)) 0 → false ≡ rightKind b (kindOf (getD ws 0 0)) →
-  Some n ≡ laterFault n ws
+    Some n ≡ laterFault n ws
 later-wrong n b ws l e r =
     let q : rightKind (eqb (length (rest ws)) 0) (kindOf (getD ws 0 0)) ≡ false = ap (λ (x : Bool). rightKind x (kindOf (getD ws 0 0))) (sym e) ∙ sym r in
     sym (later-step n ws l ∙ ap (λ (x : Bool). cond x (laterFault (n + 1) (rest ws)) (Some n)) q)

@@ -16,12 +16,12 @@ use Rattle.packet.specs.declared.sides.Side.{Side}
 use Rattle.packet.proofs.Bits.{bits-last, has-one}
 
 at-one : (k j n : ℕ) → k ≡ suc j → n / 2 ^ j % 2 ≡ 1 →
-  (upsOf (bitsFrom k n) ≡ suc (upsOf (bitsFrom j n))) × (afterTurn (bitsFrom k n) ≡ afterTurn (bitsFrom j n))
+    (upsOf (bitsFrom k n) ≡ suc (upsOf (bitsFrom j n))) × (afterTurn (bitsFrom k n) ≡ afterTurn (bitsFrom j n))
 unfolding bitsFrom upsOf afterTurn
 at-one k j n e o = rw (e, o) (refl, refl)
 
 at-zero : (k j n : ℕ) → k ≡ suc j → (n / 2 ^ j % 2 ≡ 1 → ⊥) →
-  (upsOf (bitsFrom k n) ≡ 0) × (afterTurn (bitsFrom k n) ≡ bitsFrom j n)
+    (upsOf (bitsFrom k n) ≡ 0) × (afterTurn (bitsFrom k n) ≡ bitsFrom j n)
 unfolding bitsFrom upsOf afterTurn
 at-zero k j n e z = rw (e, ne-eqb (n / 2 ^ j % 2) 1 z) (refl, refl)
 
@@ -43,13 +43,13 @@ climbed-more w a n l o (u, t) =
 
 -- the turn, or the end of the bits
 pub climbed-turn : (w a n : ℕ) → a < w → (n / 2 ^ (w - 1 - a) % 2 ≡ 1 → ⊥) → Climbed w a n →
-  (a ≡ upsOf (bitsFrom w n)) × (afterTurn (bitsFrom w n) ≡ bitsFrom (w - 1 - a) n)
+    (a ≡ upsOf (bitsFrom w n)) × (afterTurn (bitsFrom w n) ≡ bitsFrom (w - 1 - a) n)
 climbed-turn w a n l z (u, t) =
     let (x, y) = at-zero (w - a) (w - 1 - a) n (omega arith) z in
     (omega arith, t ∙ y)
 
 pub climbed-all : (w a n : ℕ) → w ≤ a → a ≤ w → Climbed w a n →
-  (a ≡ upsOf (bitsFrom w n)) × (afterTurn (bitsFrom w n) ≡ bitsFrom (w - 1 - a) n)
+    (a ≡ upsOf (bitsFrom w n)) × (afterTurn (bitsFrom w n) ≡ bitsFrom (w - 1 - a) n)
 unfolding bitsFrom upsOf afterTurn
 climbed-all w a n l m (u, t) =
     let e : w - a ≡ 0 = omega arith in
@@ -94,12 +94,12 @@ halved : (k n : ℕ) → n < 2 ^ suc k → n / 2 < 2 ^ k
 halved k n l = let e = two-pow-succ k in omega arith
 
 pub cut-zero : (k n : ℕ) → 0 < n → n < 2 ^ k → n % 2 ≡ 0 →
-  (0 < n / 2) × (n / 2 < 2 ^ (k - 1)) × (beforeStop (bitsFrom k n) ≡ beforeStop (bitsFrom (k - 1) (n / 2)))
+    (0 < n / 2) × (n / 2 < 2 ^ (k - 1)) × (beforeStop (bitsFrom k n) ≡ beforeStop (bitsFrom (k - 1) (n / 2)))
 cut-zero zero n p q e = absurd (omega arith)
 cut-zero (suc k) n p q e = let m : suc k - 1 ≡ k = omega arith in rw m (omega arith, halved k n q, stop-zero k n e)
 
 pub cut-one : (k n : ℕ) → 0 < n → n < 2 ^ k → (n % 2 ≡ 0 → ⊥) →
-  (n / 2 < 2 ^ (k - 1)) × (beforeStop (bitsFrom k n) ≡ bitsFrom (k - 1) (n / 2)) × (0 < k)
+    (n / 2 < 2 ^ (k - 1)) × (beforeStop (bitsFrom k n) ≡ bitsFrom (k - 1) (n / 2)) × (0 < k)
 cut-one zero n p q e = absurd (omega arith)
 cut-one (suc k) n p q e =
     let m : suc k - 1 ≡ k = omega arith in
@@ -118,6 +118,6 @@ one-stop k n z = let h : hasOne (bitsFrom k n) ≡ true = has-one k n ∙ ap not
 
 -- a route is its ups and what follows its turn
 pub read-by : (n a k : ℕ) (o : Option (List Side)) → a ≡ upsOf (routeBits n) → afterTurn (routeBits n) ≡ bitsFrom k n → o ≡ stopped (bitsFrom k n) →
-  leadsBy a o ≡ readRoute n
+    leadsBy a o ≡ readRoute n
 unfolding readRoute readBits
 read-by n a k o u t e = ap₂ leadsBy u (e ∙ ap stopped (sym t))

@@ -11,7 +11,7 @@ use Rattle.std.proofs.shelf.Lists.{drop-all, take-rest}
 use Rattle.std.specs.declared.option.Option.{Option}
 use Rattle.std.specs.declared.option.Option.the-variants.{Some, None}
 use Rattle.std.specs.declared.result.Result.the-variants.{Ok, Err}
-use Rattle.packet.specs.declared.faults.DeliveryFault.the-variants.{WrongBits}
+use Rattle.refusal.specs.declared.drive.DeliveryFault.the-variants.{WrongBits}
 use Rattle.packet.specs.declared.arrivals.Mark.{Mark}
 use Rattle.packet.specs.declared.arrivals.Mark.the-variants.{Ends, Unfit}
 use Rattle.packet.specs.Words.{kindOf}

@@ -16,8 +16,9 @@ use Rattle.packet.specs.declared.sides.Side.{Side}
 use Rattle.packet.specs.declared.sides.Side.the-variants.{Left, Right}
 use Rattle.packet.specs.Words.{bit}
 use Rattle.packet.specs.Routes.{Leads, leads, leadsBy, bitsFrom, hasOne, upsOf, afterTurn, beforeStop, stopped, sideOf, readBits, readRoute, routeBits, routeWidth, downFor, routeFor, writeRoute}
-use Rattle.packet.specs.Courses.{sidesBefore}
-use Rattle.packet.proofs.Bits.{split-top, bits-same, has-one}
+use Rattle.packet.specs.Courses.{sidesBefore, splitSides}
+use Rattle.packet.proofs.Bits.{split-top, bits-same, bits-low, has-one}
+use Rattle.packet.proofs.Reading.{masked}
 
 -- the number of sides
 pub sides-length : (k n : ℕ) → length (map sideOf (bitsFrom k n)) ≡ k
@@ -139,7 +140,7 @@ down-value (suc k) zero b l =
 down-value (suc k) (suc c) b l = ways (bit c b) refl (down-value k c b (omega arith))
   where
     ways : (d : Bool) → bit c b ≡ d → downFor k (map sideOf (bitsFrom c b)) ≡ (2 * (b % 2 ^ c) + 1) * 2 ^ (k - 1 - c) →
-      downFor (suc k) (sideOf (bit c b) ∷ map sideOf (bitsFrom c b)) ≡ (2 * (b % 2 ^ suc c) + 1) * 2 ^ (suc k - 1 - suc c)
+        downFor (suc k) (sideOf (bit c b) ∷ map sideOf (bitsFrom c b)) ≡ (2 * (b % 2 ^ suc c) + 1) * 2 ^ (suc k - 1 - suc c)
     ways true e ih =
         let o = eqb-true (b / 2 ^ c % 2) 1 e in
         let s : b % 2 ^ suc c ≡ 1 * 2 ^ c + b % 2 ^ c = split-top b c ∙ ap (λ (x : ℕ). x * 2 ^ c + b % 2 ^ c) o in
@@ -157,7 +158,7 @@ down-value (suc k) (suc c) b l = ways (bit c b) refl (down-value k c b (omega ar
 
 -- the route of nine bits as the code sums it up
 pub written : (a c b : ℕ) → a + c ≤ 7 → b < 2 ^ c →
-  512 - 512 / 2 ^ a + ((2 * b + 1) * 2 ^ (7 - a - c)) % 65536 ≡ routeFor 9 a (map sideOf (bitsFrom c b))
+    512 - 512 / 2 ^ a + ((2 * b + 1) * 2 ^ (7 - a - c)) % 65536 ≡ routeFor 9 a (map sideOf (bitsFrom c b))
 written a c b l m =
     let ss : List Side = map sideOf (bitsFrom c b) in
     let n : 9 - a + a ≡ 9 = omega arith in
@@ -167,13 +168,13 @@ written a c b l m =
     let s : ((2 * b + 1) * 2 ^ (7 - a - c)) % 65536 ≡ (2 * b + 1) * 2 ^ (7 - a - c) = shl-exact (suc c) (7 - a - c) 16 (omega arith) (omega arith) in
     let e : 8 - a - 1 - c ≡ 7 - a - c = omega arith in
     let d : downFor (8 - a) ss ≡ (2 * b + 1) * 2 ^ (7 - a - c) =
-      down-value (8 - a) c b (omega arith) ∙ ap₂ (λ (x y : ℕ). (2 * x + 1) * 2 ^ y) (mod-eq-of-lt m) e in
+    down-value (8 - a) c b (omega arith) ∙ ap₂ (λ (x y : ℕ). (2 * x + 1) * 2 ^ y) (mod-eq-of-lt m) e in
     let r = route-value 9 a ss (omega arith) in
     let p : 2 ^ (9 - a) ≤ 2 ^ 9 = pow-le-pow-right {n = 2} (omega arith) {i = 9 - a} {j = 9} (omega arith) in
     rw (q, s) (omega arith)
 
 pub writes : (a c b : ℕ) → a + c ≤ 7 → b < 2 ^ c →
-  Some (512 - 512 / 2 ^ a + ((2 * b + 1) * 2 ^ (7 - a - c)) % 65536) ≡ writeRoute (leads a (map sideOf (bitsFrom c b)))
+    Some (512 - 512 / 2 ^ a + ((2 * b + 1) * 2 ^ (7 - a - c)) % 65536) ≡ writeRoute (leads a (map sideOf (bitsFrom c b)))
 unfolding routeWidth
 writes a c b l m =
     let n = sides-length c b in
@@ -185,7 +186,7 @@ writes-none a c b l =
     rw (lt-leb (a + length (map sideOf (bitsFrom c b))) 7 (omega arith))
 
 pub reads : (a c b : ℕ) → a + c ≤ 7 → b < 2 ^ c →
-  readRoute (512 - 512 / 2 ^ a + ((2 * b + 1) * 2 ^ (7 - a - c)) % 65536) ≡ Some (leads a (map sideOf (bitsFrom c b)))
+    readRoute (512 - 512 / 2 ^ a + ((2 * b + 1) * 2 ^ (7 - a - c)) % 65536) ≡ Some (leads a (map sideOf (bitsFrom c b)))
 unfolding readRoute routeBits routeWidth
 reads a c b l m =
     let n = sides-length c b in
@@ -199,7 +200,7 @@ left-front k b l =
     rw e (omega arith, ap (map sideOf) (top-zero k b l))
 
 pub right-front : (k b : ℕ) → k ≤ 7 → b < 2 ^ k →
-  (b + (1 * 2 ^ k) % 65536 < 2 ^ (k + 1)) × (map sideOf (bitsFrom (k + 1) (b + (1 * 2 ^ k) % 65536)) ≡ Right ∷ map sideOf (bitsFrom k b))
+    (b + (1 * 2 ^ k) % 65536 < 2 ^ (k + 1)) × (map sideOf (bitsFrom (k + 1) (b + (1 * 2 ^ k) % 65536)) ≡ Right ∷ map sideOf (bitsFrom k b))
 right-front k b m l =
     let e : k + 1 ≡ suc k = omega arith in
     let t = two-pow-succ k in
@@ -211,3 +212,17 @@ has-room s k b l = let n = sides-length k b in rw (lt-ltb (length (map sideOf (b
 
 pub no-room : (s : Side) (k b : ℕ) → 7 ≤ k → sidesBefore s (map sideOf (bitsFrom k b)) ≡ None
 no-room s k b l = let n = sides-length k b in rw (le-ltb (length (map sideOf (bitsFrom k b))) 7 (omega arith))
+
+-- the first side and the others
+pub split-none : (k b : ℕ) → k ≡ 0 → None ≡ splitSides (map sideOf (bitsFrom k b))
+unfolding bitsFrom
+split-none k b e = rw e
+
+pub split-some : (k b : ℕ) (s : Side) → (k ≡ 0 → ⊥) → k ≤ 7 → s ≡ sideOf (bit (k - 1) b) →
+    Some (s, map sideOf (bitsFrom (k - 1) (b % ((1 * 2 ^ (k - 1)) % 65536)))) ≡ splitSides (map sideOf (bitsFrom k b))
+unfolding bitsFrom
+split-some zero b s z l e = absurd (z refl)
+split-some (suc k) b s z l e =
+    let m : suc k - 1 ≡ k = omega arith in
+    let low : bitsFrom k (b % ((1 * 2 ^ k) % 65536)) ≡ bitsFrom k b = ap (bitsFrom k) (masked k b (omega arith)) ∙ bits-low k b in
+    rw (e, m) (ap (λ (bs : List Bool). Some (sideOf (bit k b), map sideOf bs)) low)

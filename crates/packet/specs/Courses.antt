@@ -35,3 +35,12 @@ routeTold (Some r) = Some (r .bits)
 -- one more side in front, where there is room for it
 abbrev pub sidesBefore : Side → List Side → Option (List Side)
 sidesBefore s ss = cond (ltb (length ss) routeRoom) (Some (s ∷ ss)) None
+
+-- the first side and the others
+abbrev pub splitSides : List Side → Option (Side × List Side)
+splitSides [] = None
+splitSides (s ∷ ss) = Some (s, ss)
+
+abbrev pub splitTold : Option (Side × Sides) → Option (Side × List Side)
+splitTold None = None
+splitTold (Some p) = Some (p .0, sidesIn (p .1))

@@ -9,8 +9,8 @@ use Rattle.std.specs.declared.result.Result.{Result}
 use Rattle.std.specs.declared.result.Result.the-variants.{Ok, Err}
 use Rattle.packet.specs.declared.words.Kind.{Kind}
 use Rattle.packet.specs.declared.words.Kind.the-variants.{Body, Tail, Head, Unused}
-use Rattle.packet.specs.declared.faults.DeliveryFault.{DeliveryFault}
-use Rattle.packet.specs.declared.faults.DeliveryFault.the-variants.{WrongKind, WrongBits}
+use Rattle.refusal.specs.declared.drive.DeliveryFault.{DeliveryFault}
+use Rattle.refusal.specs.declared.drive.DeliveryFault.the-variants.{WrongKind, WrongBits}
 use Rattle.packet.specs.declared.arrivals.Arrival.{Arrival}
 use Rattle.packet.specs.declared.arrivals.Mark.{Mark}
 use Rattle.packet.specs.declared.arrivals.Mark.the-variants.{Ends, Unfit}

@@ -12,8 +12,8 @@ use Rattle.packet.specs.declared.words.Kind.{Kind}
 use Rattle.packet.specs.declared.words.Kind.the-variants.{Body, Tail, Head, Unused}
 use Rattle.packet.specs.declared.heads.Mode.{Mode}
 use Rattle.packet.specs.declared.heads.Head.{Head as HeadRead}
-use Rattle.packet.specs.declared.faults.PacketFault.{PacketFault}
-use Rattle.packet.specs.declared.faults.PacketFault.the-variants.{Length, Kinds, Reserved}
+use Rattle.refusal.specs.declared.send.PacketFault.{PacketFault}
+use Rattle.refusal.specs.declared.send.PacketFault.the-variants.{Length, Kinds, Reserved}
 use Rattle.packet.specs.Words.{kindOf}
 use Rattle.packet.specs.Routes.{routeIn}
 use Rattle.packet.specs.Heads.{modeOf, headReserved, keyReserved}

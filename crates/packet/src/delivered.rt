@@ -2,6 +2,7 @@
 ghost use Prim.Native.Nat.{_≤_};
 ghost use lib.ListN.{length};
 ghost use denote.Ref.{now as pointee};
+
 mod reader;
 
 // The words that were taken from an inbox, and the place up to which they are read.

@@ -5,9 +5,9 @@ ghost use Prim.Native.Nat.{_+_, _<_, _≤_, _^_};
 ghost use lib.ListN.{length};
 ghost use Rattle.packet.specs.Words.{kindOf};
 ghost use Rattle.packet.specs.Packets.{isHead, rightKind, laterFault, kindFault, reservedFault, checkPacket, headerTold};
-use crate::faults::PacketFault;
 use crate::heads::Head;
 use crate::words::Kind;
+use refusal::PacketFault;
 
 // After the head, the last word is a tail, and any other a body.
 fn right_kind(last: bool, word: u32) -> bool

@@ -1,5 +1,6 @@
 // Routes, and what they ask for. The methods stand in the files below.
 ghost use Prim.Native.Nat.{_<_, _≤_, _^_};
+
 mod reading;
 mod writing;
 

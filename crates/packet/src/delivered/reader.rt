@@ -4,12 +4,12 @@ ghost use Prim.Native.Nat.{ℕ, _+_, _<_, _≤_, _^_};
 ghost use lib.ListN.{length};
 ghost use Rattle.std.specs.declared.option.Option.the-variants.{Some};
 ghost use Rattle.packet.specs.Deliveries.{firstFrom, packetIn, nextPacket, placeAfter, arrivalTold};
+use super::Delivered;
 use crate::arrivals::Arrival;
 use crate::arrivals::Mark;
-use crate::faults::DeliveryFault;
 use crate::heads::KeyWord;
 use crate::words::Kind;
-use super::Delivered;
+use refusal::DeliveryFault;
 
 // The place of the first word that bears the mark, the first word being at place `base`.
 fn first(words: &[u32], base: usize, mark: Mark) -> Option<usize>

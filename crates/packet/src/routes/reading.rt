@@ -38,7 +38,18 @@ impl Route {
 pub fn routes_ending_going_up() -> [u16; 10]
     ensures { λ r. ⌜ r ≡ endingGoingUp 512 ⌝ }
 {
-    [0x000, 0x100, 0x180, 0x1c0, 0x1e0, 0x1f0, 0x1f8, 0x1fc, 0x1fe, 0x1ff]
+    [
+        0x000,
+        0x100,
+        0x180,
+        0x1c0,
+        0x1e0,
+        0x1f0,
+        0x1f8,
+        0x1fc,
+        0x1fe,
+        0x1ff,
+    ]
 }
 
 // How many 1s stand before the first 0, the turn.

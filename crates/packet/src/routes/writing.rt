@@ -4,11 +4,12 @@ ghost use mathlib.Core.List.{[]};
 ghost use lib.ListN.{length};
 ghost use Rattle.std.specs.declared.option.Option.the-variants.{Some};
 ghost use Rattle.packet.specs.Routes.{writeRoute, readRoute};
-ghost use Rattle.packet.specs.Courses.{sidesIn, sidesTold, sidesBefore, courseOf, routeTold};
-use crate::sides::Side;
+ghost use Rattle.packet.specs.Courses.{sidesIn, sidesTold, sidesBefore, splitSides, splitTold, courseOf, routeTold};
 use super::Course;
 use super::Route;
 use super::Sides;
+use crate::sides::Side;
+use crate::sides::side_at;
 
 impl Sides {
     // No descent at all.
@@ -23,6 +24,21 @@ impl Sides {
         ensures { λ r. ⌜ r ≡ length (sidesIn self) ⌝ }
     {
         self.count
+    }
+
+    // The first side and the others, or none where there is none.
+    pub fn split_first(self) -> Option<(Side, Sides)>
+        ensures { λ r. ⌜ splitTold r ≡ splitSides (sidesIn self) ⌝ }
+    {
+        if self.count == 0 {
+            return None;
+        }
+        let count = self.count - 1;
+        let rest = Sides {
+            bits: self.bits % (1 << count),
+            count,
+        };
+        Some((side_at(self.bits, count), rest))
     }
 
     // These sides after another one, or none where a route has no bit for it.

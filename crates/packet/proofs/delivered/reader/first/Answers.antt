@@ -18,14 +18,14 @@ pub returns-then-is-on : need.returns-then-is-on
 returns-then-is-on c =
     record {
       value =
-        scan-found (c .args .mark) (c .args .base) (c .loop-i .i) (c .args .words .now) (c .loop-i-test .taken) (c .if-is-on .ensures tt ∙ ap (marked (c .args .mark)) (c .of .ensures)) ∙
-        sym (c .loop-i .inv);
-      within = λ t e. let f : c .args .base + c .loop-i .i ≡ t = cc in (omega arith, omega arith)
+          scan-found (c .args .mark) (c .args .base) (c .loop-i .i) (c .args .words .now) (c .loop-i-test .taken) (c .if-is-on .ensures tt ∙ ap (marked (c .args .mark)) (c .of .ensures)) ∙
+          sym (c .loop-i .inv);
+      within = λ t e. let f : c .args .base + c .loop-i .i ≡ t = cc in (omega arith, omega arith);
     }
 
 pub returns : need.returns
 returns c =
     record {
       value = scan-end (c .args .mark) (c .args .base) (c .loop-i .i) (c .args .words .now) (c .loop-i-test .left) ∙ sym (c .loop-i .inv);
-      within = λ t e. absurd (let z : _≡_ {A = ℕ} 0 1 = cc in omega arith)
+      within = λ t e. absurd (let z : _≡_ {A = ℕ} 0 1 = cc in omega arith);
     }

@@ -12,8 +12,8 @@ use Rattle.packet.proofs.routes.Course.route.Needs.{then-ups-gt7·by·then-ups
 too-long : (c : need.Joined-then-ups-gt7) → 7 < c .args .self .ups + c .args .self .sides .count
 too-long c =
     elim (c .then-ups-gt7 .came) [
-      then-ups-gt7·by·then-ups-gt7 w ↦ omega arith
-    | then-ups-gt7·by·else-ups-gt7·then-sides-ups w ↦ omega arith
+      | then-ups-gt7·by·then-ups-gt7 w ↦ omega arith
+      | then-ups-gt7·by·else-ups-gt7·then-sides-ups w ↦ omega arith
     ]
 
 pub returns-then-ups-gt7 : need.returns-then-ups-gt7
@@ -21,7 +21,7 @@ returns-then-ups-gt7 c =
     let s = c .args .self in
     record {
       value = writes-none (s .ups) (s .sides .count) (s .sides .bits) (too-long c);
-      back = λ x e. absurd (let z : _≡_ {A = ℕ} 0 1 = cc in omega arith)
+      back = λ x e. absurd (let z : _≡_ {A = ℕ} 0 1 = cc in omega arith);
     }
 
 pub add-result : need.add-result
@@ -42,6 +42,6 @@ returns c =
     record {
       value = writes (s .ups) (s .sides .count) (s .sides .bits) (omega arith) (s .sides .fit);
       back = λ x e.
-        let b : _ ≡ x .bits = (let f = ap routeTold e in cc) in
-        ap readRoute (sym b) ∙ reads (s .ups) (s .sides .count) (s .sides .bits) (omega arith) (s .sides .fit)
+          let b : _ ≡ x .bits = (let f = ap routeTold e in cc) in
+          ap readRoute (sym b) ∙ reads (s .ups) (s .sides .count) (s .sides .bits) (omega arith) (s .sides .fit);
     }

@@ -18,8 +18,8 @@ pub ghost-result : need.ghost-result
 ghost-result c =
     let s = c .args .self in
     elim (c .match-side .came) [
-      in-Left w ↦ (omega arith, (rw (w .bits-is) (left-front (s .count) (s .bits) (s .fit) .0), tt))
-    | in-Right w ↦ (omega arith, (rw (w .bits-is) (right-front (s .count) (s .bits) (s .few) (s .fit) .0), tt))
+      | in-Left w ↦ (omega arith, (rw (w .bits-is) (left-front (s .count) (s .bits) (s .fit) .0), tt))
+      | in-Right w ↦ (omega arith, (rw (w .bits-is) (right-front (s .count) (s .bits) (s .few) (s .fit) .0), tt))
     ]
 
 pub returns : need.returns
@@ -27,10 +27,10 @@ returns c =
     let s = c .args .self in
     let room : s .count < 7 = c .if-self-ge7 .left in
     elim (c .match-side .came) [
-      in-Left w ↦
-        ap (λ (b : ℕ). Some (map sideOf (bitsFrom (s .count + 1) b))) (w .bits-is) ∙
-        (ap Some (left-front (s .count) (s .bits) (s .fit) .1) ∙ sym (ap (λ (x : Side). sidesBefore x (sidesIn s)) (w .in-Left .is) ∙ has-room Left (s .count) (s .bits) room))
-    | in-Right w ↦
-        ap (λ (b : ℕ). Some (map sideOf (bitsFrom (s .count + 1) b))) (w .bits-is) ∙
-        (ap Some (right-front (s .count) (s .bits) (s .few) (s .fit) .1) ∙ sym (ap (λ (x : Side). sidesBefore x (sidesIn s)) (w .in-Right .is) ∙ has-room Right (s .count) (s .bits) room))
+      | in-Left w ↦
+          ap (λ (b : ℕ). Some (map sideOf (bitsFrom (s .count + 1) b))) (w .bits-is) ∙
+          (ap Some (left-front (s .count) (s .bits) (s .fit) .1) ∙ sym (ap (λ (x : Side). sidesBefore x (sidesIn s)) (w .in-Left .is) ∙ has-room Left (s .count) (s .bits) room))
+      | in-Right w ↦
+          ap (λ (b : ℕ). Some (map sideOf (bitsFrom (s .count + 1) b))) (w .bits-is) ∙
+          (ap Some (right-front (s .count) (s .bits) (s .few) (s .fit) .1) ∙ sym (ap (λ (x : Side). sidesBefore x (sidesIn s)) (w .in-Right .is) ∙ has-room Right (s .count) (s .bits) room))
     ]
