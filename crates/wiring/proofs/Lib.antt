@@ -1,1 +1,5 @@
 pub mod Walking
+pub mod Subtree
+pub mod Meeting
+pub mod Ways
+pub mod Ordering

@@ -1,3 +1,6 @@
 pub mod Shapes
 pub mod Fulls
 pub mod Walks
+pub mod Tables
+pub mod Subtrees
+pub mod Orders
