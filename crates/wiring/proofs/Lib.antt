@@ -3,3 +3,5 @@ pub mod Subtree
 pub mod Meeting
 pub mod Ways
 pub mod Ordering
+pub mod Computed
+pub mod Examples

@@ -4,3 +4,4 @@ pub mod Walks
 pub mod Tables
 pub mod Subtrees
 pub mod Orders
+pub mod Worked

@@ -4,6 +4,7 @@ mod orders;
 mod subtrees;
 mod walks;
 mod wire;
+mod worked;
 
 pub use full::FullTree;
 pub use full::trees::FullTreeWiring;
@@ -16,3 +17,4 @@ pub use subtrees::subtree_size;
 pub use walks::Walk;
 pub use walks::walk_route;
 pub use wire::Wiring;
+pub use worked::worked_routes_hold;
