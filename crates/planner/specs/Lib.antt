@@ -1,0 +1,4 @@
+pub mod Plans
+pub mod Lines
+pub mod Read
+pub mod Answers

@@ -1,0 +1,4 @@
+pub mod Cutting
+pub mod OneMoreDigit
+pub mod Parting
+pub mod ReadBack
