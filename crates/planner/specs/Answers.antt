@@ -12,7 +12,7 @@ use Rattle.refusal.specs.declared.order.OrderFault.{OrderFault}
 use Rattle.refusal.specs.Numbers.{numbered}
 use Rattle.refusal.specs.Refusals.{wiringRefusal, orderRefusal}
 use Rattle.wiring.specs.Shapes.{Shape}
-use Rattle.wiring.specs.Orders.{Ordered}
+use Rattle.routing.specs.Orders.{Ordered}
 use Rattle.planner.specs.declared.plans.Plan.{Plan}
 use Rattle.planner.specs.declared.faults.PlanFault.{PlanFault}
 use Rattle.planner.specs.declared.faults.PlanFault.the-variants.{NotUnderstood, Wiring, Order, Memory}

@@ -7,9 +7,9 @@ use Rattle.std.specs.declared.result.Result.the-variants.{Ok, Err}
 use Rattle.refusal.specs.declared.order.OrderFault.{OrderFault}
 use Rattle.packet.specs.Heads.{headWord}
 use Rattle.wiring.specs.Shapes.{Shape}
-use Rattle.wiring.specs.Walks.{walkOf}
-use Rattle.wiring.specs.Subtrees.{reach, hopsAWord}
-use Rattle.wiring.specs.Orders.{Ordered}
+use Rattle.routing.specs.Walks.{walkOf}
+use Rattle.routing.specs.Subtrees.{reach, hopsAWord}
+use Rattle.routing.specs.Orders.{Ordered}
 use Rattle.planner.specs.declared.plans.Plan.{Plan}
 
 -- a plan tells the head that serves the order, where its route leads, how many cards it reaches and the hops of each word

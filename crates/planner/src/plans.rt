@@ -3,12 +3,12 @@ ghost use mathlib.Core.Path.{_≡_};
 ghost use Rattle.planner.specs.Plans.{Planned};
 use packet::Head;
 use refusal::OrderFault;
-use wiring::Walk;
+use routing::Walk;
 use wiring::Wiring;
-use wiring::cards_reached;
-use wiring::hops_a_word;
-use wiring::order;
-use wiring::walk_route;
+use routing::cards_reached;
+use routing::hops_a_word;
+use routing::order;
+use routing::walk_route;
 
 // What an order comes to: the head, where its route leads, how many cards it reaches, and the hops of each word.
 #[derive(Clone, Copy)]

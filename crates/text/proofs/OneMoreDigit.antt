@@ -1,7 +1,7 @@
 -- Digits read from the left: what one more does to the number, and how large it can be.
 use mathlib.Core.Path.{_≡_}
 use mathlib.Core.Bool.{true}
-use mathlib.Core.List.{List, []}
+use mathlib.Core.List.{List}
 use Prim.Native.Nat.{ℕ, _+_, _*_, _^_, _<_, _≤_}
 use native.Mathlib.Numerals.{add-one}
 use native.Mathlib.Nat.{pow-suc, pow-le-pow-left, pow-le-pow-right}
@@ -15,8 +15,9 @@ use Rattle.std.proofs.shelf.Ways.{tells}
 use Rattle.std.specs.Options.{Cases}
 use Rattle.std.specs.declared.option.Option.{Option}
 use Rattle.std.specs.declared.option.Option.the-variants.{Some, None}
-use Rattle.text.specs.Number.{digitOf, digitIn, numberFrom, numberOf}
+use Rattle.text.specs.Number.{digitIn, numberFrom, numberOf}
 
+-- after i digits, which are worth n
 module _ (base n : ℕ) (bs : List ℕ) (i : ℕ) where
   pub one-more : (d : ℕ) → i < length bs → Some d ≡ digitIn base (getD bs i 0) → numberFrom base (n * base + d) (drop (i + 1) bs) ≡ numberFrom base n (drop i bs)
   one-more d h e = rw (drop-more bs i 0, ← e)

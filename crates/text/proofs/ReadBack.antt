@@ -14,9 +14,9 @@ use Rattle.std.specs.Written.{digits, glyph, spelled}
 use Rattle.std.specs.declared.option.Option.{Option}
 use Rattle.std.specs.declared.option.Option.the-variants.{Some, None}
 use Rattle.text.specs.AndThen.{andThen}
-use Rattle.text.specs.Number.{digitOf, digitIn, numberFrom, numberOf, decimalOf, hexByteOf, hexWordOf}
+use Rattle.text.specs.Number.{digitOf, digitIn, numberFrom, numberOf, hexByteOf}
 use Rattle.text.specs.Parted.{NoSpace}
-use Rattle.text.specs.Spelled.{decimalText, hexText, byteText, ReadsBack}
+use Rattle.text.specs.Spelled.{plainText, byteText, ReadsBack}
 use Rattle.text.proofs.OneMoreDigit.{enough}
 
 -- what is read as a number has no space in it
@@ -72,19 +72,15 @@ module _ (base : ℕ) (c : Bool) (low : 2 ≤ base) (high : base ≤ 16) where
       let front = spelled-some k (n / base) (glyph c (n % base) ∷ acc) in
       elim (eqb (n / base) 0) as (λ t. length acc < length (cond t (glyph c (n % base) ∷ acc) (spelled (suc k) base c (n / base) (glyph c (n % base) ∷ acc)))) [ true ↦ omega arith | false ↦ omega arith ]
 
-  pub digits-back : (m n : ℕ) → suc m ≤ 64 → n < base ^ suc m → NoSpace (digits base c n) × (numberOf base 1 (suc m) (digits base c n) ≡ Some n)
-  unfolding digits
-  digits-back m n l h =
-      let room : base ^ suc m ≤ base ^ 64 = pow-le-pow-right (omega arith) l in
-      let text : List ℕ = spelled 64 base c n [] in
-      let back : numberFrom base 0 text ≡ Some n = spelled-back 64 n [] (omega arith) in
-      (no-space base 0 text n back, sym (enough base 1 (suc m) text (Some n) (spelled-some 63 n []) (omega (arith, length-spelled 64 m n [] h)) (sym back)))
-
-pub decimal-back : ReadsBack decimalOf decimalText 1000
-decimal-back n h = digits-back 10 false (omega arith) (omega arith) 2 n (omega arith) h
-
-pub hex-word-back : (c : Bool) → ReadsBack hexWordOf (hexText c) (2 ^ 32)
-hex-word-back c n h = digits-back 16 c (omega arith) (omega arith) 7 n (omega arith) h
+pub plain-back : (base most : ℕ) → 2 ≤ base → base ≤ 16 → most ≤ 64 → 1 ≤ most → (c : Bool) → ReadsBack (numberOf base 1 most) (plainText base c) (base ^ most)
+unfolding digits
+plain-back base zero low high l some c n h = absurd (omega arith)
+plain-back base (suc m) low high l some c n h =
+    let room : base ^ suc m ≤ base ^ 64 = pow-le-pow-right (omega arith) l in
+    let text : List ℕ = spelled 64 base c n [] in
+    let back : numberFrom base 0 text ≡ Some n = spelled-back base c low high 64 n [] (omega arith) in
+    let short : length text ≤ suc m = omega (arith, length-spelled base c low high 64 m n [] h) in
+    (no-space base 0 text n back, sym (enough base 1 (suc m) text (Some n) (spelled-some base c low high 63 n []) short (sym back)))
 
 pub hex-byte-back : (c : Bool) → ReadsBack hexByteOf (byteText c) (2 ^ 8)
 hex-byte-back c n h =

@@ -8,13 +8,17 @@ use Rattle.std.specs.declared.option.Option.{Option}
 use Rattle.std.specs.declared.option.Option.the-variants.{Some}
 use Rattle.text.specs.Parted.{NoSpace}
 
--- in decimal with no zero in front, as `{n}` prints it
-abbrev pub decimalText : ℕ → List ℕ
-decimalText n = digits 10 false n
+-- in a base with no zero in front, in small letters or in capitals
+abbrev pub plainText : ℕ → Bool → ℕ → List ℕ
+plainText base capitals n = digits base capitals n
 
--- in hexadecimal with no zero in front, in small letters or in capitals
+-- in decimal, as `{n}` prints it
+abbrev pub decimalText : ℕ → List ℕ
+decimalText = plainText 10 false
+
+-- in hexadecimal
 abbrev pub hexText : Bool → ℕ → List ℕ
-hexText capitals n = digits 16 capitals n
+hexText = plainText 16
 
 -- a byte in two hexadecimal digits, in small letters or in capitals
 abbrev pub byteText : Bool → ℕ → List ℕ

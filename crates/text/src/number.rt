@@ -5,7 +5,7 @@ ghost use Prim.Native.Nat.{_^_, _<_, _≤_};
 ghost use lib.ListN.{length};
 ghost use Rattle.std.specs.Options.{Cases};
 ghost use Rattle.text.specs.Number.{digitIn, numberFrom, numberOf, decimalOf, hexByteOf, hexWordOf};
-ghost use Rattle.text.specs.Spelled.{decimalText, hexText, byteText, ReadsBack};
+ghost use Rattle.text.specs.Spelled.{plainText, decimalText, hexText, byteText, ReadsBack};
 
 // What a byte is worth as a digit of a base.
 fn digit(base: u32, b: u8) -> Option<u32>
@@ -34,11 +34,12 @@ fn digits(base: u32, field: &[u8]) -> Option<u32>
     Some(n)
 }
 
-// The same, of `least` to `most` digits only.
+// The same, of `least` to `most` digits only. A number is read as it is usually written.
 fn number(base: u32, least: usize, most: usize, field: &[u8]) -> Option<u32>
     requires { ⌜ 2 ≤ base ⌝ ∗ ⌜ base ≤ 16 ⌝ ∗ ⌜ most ≤ 8 ⌝ }
     ensures value { λ r. ⌜ r ≡ numberOf base least most (now (field .entry)) ⌝ }
     ensures small { λ r. ⌜ Cases r (Unit {0}) (λ n. n < base ^ most) ⌝ }
+    ensures back { λ _. ⌜ (1 ≤ most → (capitals : Bool) → ReadsBack (numberOf base 1 most) (plainText base capitals) (base ^ most)) ⌝ }
 {
     if least <= field.len() && field.len() <= most {
         digits(base, field)

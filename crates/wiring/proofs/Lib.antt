@@ -1,7 +1,5 @@
-pub mod Walking
-pub mod Subtree
-pub mod Meeting
-pub mod Ways
-pub mod Ordering
-pub mod Computed
-pub mod Examples
+pub mod Ranging
+pub mod Filling
+pub mod Placing
+pub mod Lawfulness
+pub mod Judging

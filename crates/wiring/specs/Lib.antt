@@ -1,7 +1,4 @@
 pub mod Shapes
 pub mod Fulls
-pub mod Walks
 pub mod Tables
-pub mod Subtrees
-pub mod Orders
-pub mod Worked
+pub mod Wireds

@@ -1,20 +1,10 @@
-// The tree's shape: wirings, the walk of a route over them, path hops, and the route maker.
-mod full;
-mod orders;
-mod subtrees;
-mod walks;
+// The tree's shape: wirings as an interface, the full tree, and the tree that a table lists.
 mod wire;
-mod worked;
+mod full;
+mod wired;
 
+pub use wire::Wiring;
 pub use full::FullTree;
 pub use full::trees::FullTreeWiring;
-pub use orders::order;
-pub use subtrees::cards_reached;
-pub use subtrees::hops_a_word;
-pub use subtrees::path_hops;
-pub use subtrees::stands_over;
-pub use subtrees::subtree_size;
-pub use walks::Walk;
-pub use walks::walk_route;
-pub use wire::Wiring;
-pub use worked::worked_routes_hold;
+pub use wired::WiredTree;
+pub use wired::trees::WiredTreeWiring;

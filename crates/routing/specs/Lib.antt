@@ -1,0 +1,4 @@
+pub mod Walks
+pub mod Subtrees
+pub mod Orders
+pub mod Worked
