@@ -4,6 +4,8 @@ mod build;
 mod drive;
 mod order;
 mod send;
+#[cfg(test)]
+mod tests;
 
 pub use answer::Refusal;
 pub use build::LicenceFault;

@@ -2,7 +2,7 @@
 use mathlib.Core.Path.{_≡_, refl, sym, _∙_}
 use mathlib.Core.Logic.{inl, inr}
 use mathlib.Core.List.{List, _++_}
-use Prim.Native.Nat.{ℕ, _-_, _≤_, _<_}
+use Prim.Native.Nat.{ℕ, _-_}
 use lib.ListN.{length, drop, replicate}
 use Rattle.std.proofs.shelf.Lists.{length-replicate, getD-replicate, getD-past, getD-append-left, getD-append-right, drop-replicate}
 use Rattle.std.proofs.shelf.Tests.{cases-lt}

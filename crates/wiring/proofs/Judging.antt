@@ -1,9 +1,9 @@
 -- A table in range is sound exactly if the tree that it lists keeps the laws.
 use mathlib.Core.Path.{_≡_, refl, sym, ap, _∙_}
-use mathlib.Core.Bool.{true, false, cond}
+use mathlib.Core.Bool.{false}
 use mathlib.Core.Logic.{_⊎_, inl, inr}
 use mathlib.Core.List.{List, [], _∷_}
-use Prim.Native.Nat.{ℕ, zero, suc, _/_, _%_, _<_}
+use Prim.Native.Nat.{ℕ, zero, suc, _/_, _<_}
 use native.Mathlib.Omega.{arith}
 use lib.Dec.{eqb, ltb}
 use lib.ListN.{length}
@@ -11,10 +11,9 @@ use Rattle.std.specs.declared.option.Option.{Option}
 use Rattle.std.specs.declared.option.Option.the-variants.{Some, None}
 use Rattle.std.specs.Options.{isSome}
 use Rattle.std.proofs.shelf.Tests.{lt-ltb, eq-eqb, ne-eqb, cases-eq, cond-true, cond-false, false≢true}
-use Rattle.packet.specs.Routes.{sideOf}
 use Rattle.wiring.specs.Shapes.{Lawful}
 use Rattle.wiring.specs.Tables.{Sized, noEntry, listedCards, entryOf, entryAt, InRange, Sound}
-use Rattle.wiring.specs.Wireds.{later, firstPlace, listedShape, parentBy}
+use Rattle.wiring.specs.Wireds.{later, firstPlace, listedShape}
 use Rattle.wiring.proofs.Placing.{stands-listed}
 use Rattle.wiring.proofs.Lawfulness.{entry-back, entry-at, parent-some, sideAt, lawful}
 

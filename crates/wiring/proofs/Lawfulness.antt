@@ -7,12 +7,11 @@ use native.Mathlib.Omega.{arith}
 use lib.Dec.{eqb, ltb}
 use Rattle.std.specs.declared.option.Option.{Option}
 use Rattle.std.specs.declared.option.Option.the-variants.{Some, None}
-use Rattle.std.specs.Options.{isSome}
-use Rattle.std.proofs.shelf.Tests.{lt-ltb, ltb-true, eq-eqb, ne-eqb, eqb-false, cases-lt, cases-eq, cond-false, cases-bool}
+use Rattle.std.proofs.shelf.Tests.{lt-ltb, ltb-true, eq-eqb, ne-eqb, cases-lt, cases-eq, cond-false}
 use Rattle.packet.specs.declared.sides.Side.{Side}
 use Rattle.packet.specs.declared.sides.Side.the-variants.{Left, Right}
 use Rattle.packet.specs.Routes.{sideOf}
-use Rattle.wiring.specs.Shapes.{Shape, Lawful}
+use Rattle.wiring.specs.Shapes.{Lawful}
 use Rattle.wiring.specs.Tables.{noEntry, entryOf, listedBy}
 use Rattle.wiring.specs.Wireds.{parentBy, placedShape}
 

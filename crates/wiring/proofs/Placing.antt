@@ -3,13 +3,13 @@ use mathlib.Core.Path.{_≡_, refl, sym, ap, _∙_}
 use mathlib.Core.Bool.{true, false}
 use mathlib.Core.Logic.{inl, inr}
 use mathlib.Core.List.{List}
-use Prim.Native.Nat.{ℕ, _+_, _/_, _≤_, _<_}
+use Prim.Native.Nat.{ℕ, _+_, _/_, _<_}
 use native.Mathlib.Omega.{arith}
 use lib.Dec.{eqb, ltb}
 use lib.ListN.{length, getD, set, replicate}
 use Rattle.std.proofs.shelf.Lists.{getD-set-same, getD-set-other, getD-past, length-set}
 use Rattle.std.proofs.shelf.Tests.{cases-eq, cases-lt, ltb-true, ltb-false, eqb-true, eqb-false, and-parts, and-cases}
-use Rattle.wiring.specs.Tables.{Sized, noEntry, listedCards, entryAt, InRange, StandsOnce}
+use Rattle.wiring.specs.Tables.{Sized, noEntry, listedCards, entryAt, InRange}
 use Rattle.wiring.specs.Wireds.{mayName, AllStand, Places, SameEntries}
 use Rattle.wiring.proofs.Filling.{none-filled}
 use Rattle.wiring.proofs.Ranging.{entry-is}

@@ -82,8 +82,9 @@ impl<'a> Delivered<'a> {
         ensures words { λ _. ⌜ now (self .exit) .words .now ≡ now (self .entry) .words .now ⌝ }
     {
         let next = next_at(self.words, self.place)?;
-        if let Some(arrival) = next {
-            self.place += arrival.words.len();
+        match next {
+            Some(arrival) => self.place += arrival.words.len(),
+            None => {}
         }
         Ok(next)
     }
