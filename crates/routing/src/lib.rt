@@ -3,6 +3,8 @@ mod walks;
 mod subtrees;
 mod orders;
 mod worked;
+#[cfg(test)]
+mod tests;
 
 pub use walks::Walk;
 pub use walks::walk_route;
@@ -12,4 +14,4 @@ pub use subtrees::path_hops;
 pub use subtrees::stands_over;
 pub use subtrees::subtree_size;
 pub use orders::order;
-pub use worked::worked_routes_hold;
+pub use worked::worked_routes;

@@ -1,9 +1,12 @@
 // Worked routes, computed from the definitions.
+ghost use mathlib.Core.Path.{_≡_};
+ghost use lib.ListN.{length};
 ghost use Rattle.routing.specs.Worked.{AllHold, worked};
 
-// Every worked route over a full tree is as listed; the answer is how many there are.
-pub fn worked_routes_hold() -> u8
-    ensures { λ _. ⌜ AllHold worked ⌝ }
+// How many routes are worked through; each of them is as listed.
+pub fn worked_routes() -> u8
+    ensures count { λ r. ⌜ r ≡ length worked ⌝ }
+    ensures hold { λ _. ⌜ AllHold worked ⌝ }
 {
     9
 }
