@@ -1,6 +1,8 @@
 // A refusal as a number and a place.
 ghost use mathlib.Core.Path.{_≡_};
-ghost use Rattle.refusal.specs.Numbers.{numbered, placed};
+ghost use Rattle.std.specs.declared.option.Option.the-variants.{Some};
+ghost use Rattle.refusal.specs.Numbers.{numbered, placed, refusalText};
+use std::fmt;
 
 // A refusal as it is answered: its number, and its place where it has one.
 #[derive(Clone, Copy)]
@@ -25,6 +27,18 @@ impl Refusal {
         Refusal {
             number,
             place: Some(place),
+        }
+    }
+}
+
+pub impl fmt::Display for Refusal as RefusalDisplay {
+    ghost shown = { λ r. Some (refusalText r) };
+
+    fn fmt<W: fmt::Write>(&self, f: &mut fmt::Formatter<W>) -> fmt::Result {
+        let number = self.number;
+        match self.place {
+            Some(place) => write!(f, "{number} at {place}"),
+            None => write!(f, "{number}"),
         }
     }
 }

@@ -1,7 +1,10 @@
 // Refusals of whoever drives fires, takes words, and reads what was delivered.
 ghost use mathlib.Core.Path.{_≡_};
+ghost use Rattle.std.specs.declared.option.Option.the-variants.{Some};
+ghost use Rattle.refusal.specs.Sentences.{sentence, fireReason, takeReason, deliveryReason};
 ghost use Rattle.refusal.specs.Refusals.{fireRefusal, takeRefusal, deliveryRefusal};
 use crate::answer::Refusal;
+use crate::answer::RefusalDisplay;
 use std::fmt;
 
 // A fire that is not made.
@@ -30,17 +33,29 @@ impl FireFault {
     }
 }
 
-pub impl fmt::Display for FireFault as FireFaultDisplay {
-    fn fmt<W: fmt::Write>(&self, f: &mut fmt::Formatter<W>) -> fmt::Result {
-        let number = self.refusal().number;
+impl FireFault {
+    // What is wrong, in words.
+    fn reason(&self) -> &'static str
+        ensures { λ r. ⌜ now r ≡ fireReason (now (self .entry)) ⌝ }
+    {
         match *self {
-            FireFault::NoCard => write!(f, "{number}: there is no such card"),
-            FireFault::NoInput => write!(f, "{number}: the station has no such input"),
-            FireFault::NothingWaits => write!(f, "{number}: nothing waits at that input"),
-            FireFault::HeldByOther => write!(f, "{number}: the station is held by another input"),
-            FireFault::LinkOccupied => write!(f, "{number}: a link that is needed is occupied"),
-            FireFault::InboxFull => write!(f, "{number}: the inbox is full"),
+            FireFault::NoCard => "there is no such card",
+            FireFault::NoInput => "the station has no such input",
+            FireFault::NothingWaits => "nothing waits at that input",
+            FireFault::HeldByOther => "the station is held by another input",
+            FireFault::LinkOccupied => "a link that is needed is occupied",
+            FireFault::InboxFull => "the inbox is full",
         }
+    }
+}
+
+pub impl fmt::Display for FireFault as FireFaultDisplay {
+    ghost shown = { λ fault. Some (sentence (fireRefusal fault) (fireReason fault)) };
+
+    fn fmt<W: fmt::Write>(&self, f: &mut fmt::Formatter<W>) -> fmt::Result {
+        let refusal = self.refusal();
+        let reason = self.reason();
+        write!(f, "{refusal}: {reason}")
     }
 }
 
@@ -62,13 +77,25 @@ impl TakeFault {
     }
 }
 
-pub impl fmt::Display for TakeFault as TakeFaultDisplay {
-    fn fmt<W: fmt::Write>(&self, f: &mut fmt::Formatter<W>) -> fmt::Result {
-        let number = self.refusal().number;
+impl TakeFault {
+    // What is wrong, in words.
+    fn reason(&self) -> &'static str
+        ensures { λ r. ⌜ now r ≡ takeReason (now (self .entry)) ⌝ }
+    {
         match *self {
-            TakeFault::NoReader => write!(f, "{number}: there is no such card"),
-            TakeFault::InboxEmpty => write!(f, "{number}: the inbox is empty"),
+            TakeFault::NoReader => "there is no such card",
+            TakeFault::InboxEmpty => "the inbox is empty",
         }
+    }
+}
+
+pub impl fmt::Display for TakeFault as TakeFaultDisplay {
+    ghost shown = { λ fault. Some (sentence (takeRefusal fault) (takeReason fault)) };
+
+    fn fmt<W: fmt::Write>(&self, f: &mut fmt::Formatter<W>) -> fmt::Result {
+        let refusal = self.refusal();
+        let reason = self.reason();
+        write!(f, "{refusal}: {reason}")
     }
 }
 
@@ -90,22 +117,24 @@ impl DeliveryFault {
     }
 }
 
-pub impl fmt::Display for DeliveryFault as DeliveryFaultDisplay {
-    fn fmt<W: fmt::Write>(&self, f: &mut fmt::Formatter<W>) -> fmt::Result {
-        let number = self.refusal().number;
+impl DeliveryFault {
+    // What is wrong, in words.
+    fn reason(&self) -> &'static str
+        ensures { λ r. ⌜ now r ≡ deliveryReason (now (self .entry)) ⌝ }
+    {
         match *self {
-            DeliveryFault::WrongKind { place } => {
-                write!(
-                    f,
-                    "{number}: the word at place {place} is of the wrong kind"
-                )
-            }
-            DeliveryFault::WrongBits { place } => {
-                write!(
-                    f,
-                    "{number}: the key word at place {place} has reserved bits set"
-                )
-            }
+            DeliveryFault::WrongKind { .. } => "the word is of the wrong kind",
+            DeliveryFault::WrongBits { .. } => "the key word has reserved bits set",
         }
+    }
+}
+
+pub impl fmt::Display for DeliveryFault as DeliveryFaultDisplay {
+    ghost shown = { λ fault. Some (sentence (deliveryRefusal fault) (deliveryReason fault)) };
+
+    fn fmt<W: fmt::Write>(&self, f: &mut fmt::Formatter<W>) -> fmt::Result {
+        let refusal = self.refusal();
+        let reason = self.reason();
+        write!(f, "{refusal}: {reason}")
     }
 }

@@ -8,6 +8,7 @@ mod send;
 mod tests;
 
 pub use answer::Refusal;
+pub use answer::RefusalDisplay;
 pub use build::LicenceFault;
 pub use build::LicenceFaultDisplay;
 pub use build::WiringFault;

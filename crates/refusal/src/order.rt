@@ -1,7 +1,10 @@
 // Refusals of route orders.
 ghost use mathlib.Core.Path.{_≡_};
+ghost use Rattle.std.specs.declared.option.Option.the-variants.{Some};
+ghost use Rattle.refusal.specs.Sentences.{sentence, orderReason};
 ghost use Rattle.refusal.specs.Refusals.{orderRefusal};
 use crate::answer::Refusal;
+use crate::answer::RefusalDisplay;
 use std::fmt;
 
 // A route that is not made.
@@ -24,18 +27,25 @@ impl OrderFault {
     }
 }
 
-pub impl fmt::Display for OrderFault as OrderFaultDisplay {
-    fn fmt<W: fmt::Write>(&self, f: &mut fmt::Formatter<W>) -> fmt::Result {
-        let number = self.refusal().number;
+impl OrderFault {
+    // What is wrong, in words.
+    fn reason(&self) -> &'static str
+        ensures { λ r. ⌜ now r ≡ orderReason (now (self .entry)) ⌝ }
+    {
         match *self {
-            OrderFault::Unknown => write!(f, "{number}: there is no such card"),
-            OrderFault::NoneListed => write!(f, "{number}: no card is listed"),
-            OrderFault::TooLong => {
-                write!(
-                    f,
-                    "{number}: the way has more than 7 ups and descents together"
-                )
-            }
+            OrderFault::Unknown => "there is no such card",
+            OrderFault::NoneListed => "no card is listed",
+            OrderFault::TooLong => "the way has more than 7 ups and descents together",
         }
+    }
+}
+
+pub impl fmt::Display for OrderFault as OrderFaultDisplay {
+    ghost shown = { λ fault. Some (sentence (orderRefusal fault) (orderReason fault)) };
+
+    fn fmt<W: fmt::Write>(&self, f: &mut fmt::Formatter<W>) -> fmt::Result {
+        let refusal = self.refusal();
+        let reason = self.reason();
+        write!(f, "{refusal}: {reason}")
     }
 }

@@ -1,8 +1,11 @@
 // Refusals of a sender: the packet's fault holds the route's whole.
 ghost use mathlib.Core.Path.{_≡_};
+ghost use Rattle.std.specs.declared.option.Option.the-variants.{Some};
+ghost use Rattle.refusal.specs.Sentences.{sentence, routeReason, packetReason};
 ghost use Rattle.refusal.specs.declared.send.PacketFault.the-variants.{Route as PacketRoute};
 ghost use Rattle.refusal.specs.Refusals.{routeRefusal, packetRefusal};
 use crate::answer::Refusal;
+use crate::answer::RefusalDisplay;
 use std::fmt;
 
 // A route that cannot be walked.
@@ -25,21 +28,26 @@ impl RouteFault {
     }
 }
 
-pub impl fmt::Display for RouteFault as RouteFaultDisplay {
-    fn fmt<W: fmt::Write>(&self, f: &mut fmt::Formatter<W>) -> fmt::Result {
-        let number = self.refusal().number;
+impl RouteFault {
+    // What is wrong, in words.
+    fn reason(&self) -> &'static str
+        ensures { λ r. ⌜ now r ≡ routeReason (now (self .entry)) ⌝ }
+    {
         match *self {
-            RouteFault::EndsGoingUp { card } => {
-                write!(f, "{number}: the route from card {card} ends on the way up")
-            }
-            RouteFault::AboveRoot => write!(f, "{number}: the route climbs above card 0"),
-            RouteFault::NoDaughter { card } => {
-                write!(
-                    f,
-                    "{number}: card {card} has no daughter where the route needs one"
-                )
-            }
+            RouteFault::EndsGoingUp { .. } => "the route ends on the way up",
+            RouteFault::AboveRoot => "the route climbs above card 0",
+            RouteFault::NoDaughter { .. } => "the card lacks the daughter that the route needs",
         }
+    }
+}
+
+pub impl fmt::Display for RouteFault as RouteFaultDisplay {
+    ghost shown = { λ fault. Some (sentence (routeRefusal fault) (routeReason fault)) };
+
+    fn fmt<W: fmt::Write>(&self, f: &mut fmt::Formatter<W>) -> fmt::Result {
+        let refusal = self.refusal();
+        let reason = self.reason();
+        write!(f, "{refusal}: {reason}")
     }
 }
 
@@ -77,26 +85,28 @@ impl PacketFault {
     }
 }
 
-pub impl fmt::Display for PacketFault as PacketFaultDisplay {
-    fn fmt<W: fmt::Write>(&self, f: &mut fmt::Formatter<W>) -> fmt::Result {
-        let number = self.refusal().number;
+impl PacketFault {
+    // What is wrong, in words.
+    fn reason(&self) -> &'static str
+        ensures { λ r. ⌜ now r ≡ packetReason (now (self .entry)) ⌝ }
+    {
         match *self {
-            PacketFault::NoSender => write!(f, "{number}: there is no such card"),
-            PacketFault::Length => write!(f, "{number}: a packet has 2 to 64 words"),
-            PacketFault::Kinds { place } => {
-                write!(
-                    f,
-                    "{number}: the word at place {place} is of the wrong kind"
-                )
-            }
-            PacketFault::Reserved { place } => {
-                write!(
-                    f,
-                    "{number}: the word at place {place} has reserved bits set"
-                )
-            }
-            PacketFault::Route(fault) => write!(f, "{fault}"),
-            PacketFault::QueueFull => write!(f, "{number}: the queue has no room for the packet"),
+            PacketFault::NoSender => "there is no such card",
+            PacketFault::Length => "a packet has 2 to 64 words",
+            PacketFault::Kinds { .. } => "the word is of the wrong kind",
+            PacketFault::Reserved { .. } => "the word has reserved bits set",
+            PacketFault::Route(fault) => fault.reason(),
+            PacketFault::QueueFull => "the queue has no room for the packet",
         }
+    }
+}
+
+pub impl fmt::Display for PacketFault as PacketFaultDisplay {
+    ghost shown = { λ fault. Some (sentence (packetRefusal fault) (packetReason fault)) };
+
+    fn fmt<W: fmt::Write>(&self, f: &mut fmt::Formatter<W>) -> fmt::Result {
+        let refusal = self.refusal();
+        let reason = self.reason();
+        write!(f, "{refusal}: {reason}")
     }
 }
