@@ -3,3 +3,4 @@ pub mod Reading
 pub mod Writing
 pub mod Checking
 pub mod Scanning
+pub mod Rewritten

@@ -5,3 +5,4 @@ pub mod Ways
 pub mod Ordering
 pub mod Computed
 pub mod Examples
+pub mod Unique

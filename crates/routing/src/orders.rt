@@ -5,6 +5,8 @@ ghost use mathlib.Core.List.{_∷_};
 ghost use Prim.Native.Nat.{ℕ, _<_};
 ghost use lib.Dec.{eqb, ltb};
 ghost use Rattle.std.specs.declared.option.Option.the-variants.{Some};
+ghost use Rattle.std.specs.declared.result.Result.{Result};
+ghost use Rattle.refusal.specs.declared.order.OrderFault.{OrderFault};
 ghost use Rattle.packet.specs.Courses.{sidesTold, courseTold};
 ghost use Rattle.routing.specs.Walks.{climb};
 ghost use Rattle.routing.specs.Subtrees.{covers, coversAll};
@@ -149,9 +151,10 @@ fn mode_for(first: u16, others: &[u16]) -> Mode
     }
 }
 
-// The head of a packet from the sender to these cards.
+// The head of a packet from the sender to these cards. An order has no other answer.
 pub fn order<W: Wiring>(wiring: &W, sender: u16, cards: &[u16]) -> Result<Head, OrderFault>
-    ensures { λ r. ⌜ Ordered (shape (now (wiring .entry))) sender (now (cards .entry)) (headTold r) ⌝ }
+    ensures answer { λ r. ⌜ Ordered (shape (now (wiring .entry))) sender (now (cards .entry)) (headTold r) ⌝ }
+    ensures only { λ r. ⌜ ((q : Result ℕ OrderFault) → Ordered (shape (now (wiring .entry))) sender (now (cards .entry)) q → q ≡ headTold r) ⌝ }
 {
     let n = wiring.cards();
     if sender >= n || !all_below(cards, n) {
