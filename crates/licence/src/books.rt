@@ -1,10 +1,10 @@
 ghost use mathlib.Core.Path.{_≡_};
 ghost use Rattle.licence.specs.Books.{bookOf, rulesIn, firstOf, Decided};
 ghost use Rattle.licence.specs.Granted.{granted};
-use refusal::LicenceFault;
 use crate::policy::Policy;
 use crate::rule::Rule;
 use crate::verdict::Verdict;
+use refusal::LicenceFault;
 
 // The most rules that a book may have.
 const RULES: usize = 64;

@@ -5,8 +5,6 @@ mod pattern;
 mod policy;
 mod range;
 mod rule;
-#[cfg(test)]
-mod tests;
 mod verdict;
 
 pub use books::Book;

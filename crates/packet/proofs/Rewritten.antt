@@ -65,12 +65,12 @@ further k r false ss l e (w, n) = let h = high-zero k r l e in (omega arith, ome
 
 -- a stop at this bit, or further down
 stop-cases : (b : Bool) (bs : List Bool) (ss : List Side) → stopped (b ∷ bs) ≡ Some ss →
-  ((hasOne bs ≡ false) × (hasOne (b ∷ bs) ≡ true) × (ss ≡ [])) ⊎ ((xs : List Side) × (stopped bs ≡ Some xs) × (ss ≡ sideOf b ∷ xs))
+    ((hasOne bs ≡ false) × (hasOne (b ∷ bs) ≡ true) × (ss ≡ [])) ⊎ ((xs : List Side) × (stopped bs ≡ Some xs) × (ss ≡ sideOf b ∷ xs))
 unfolding hasOne beforeStop
 stop-cases b bs ss e = go (b || hasOne bs) (hasOne bs) refl refl e
   where
     go : (x y : Bool) → (b || hasOne bs) ≡ x → hasOne bs ≡ y → cond x (Some (map sideOf (cond y (b ∷ beforeStop bs) []))) None ≡ Some ss →
-      ((hasOne bs ≡ false) × ((b || hasOne bs) ≡ true) × (ss ≡ [])) ⊎ ((xs : List Side) × (stopped bs ≡ Some xs) × (ss ≡ sideOf b ∷ xs))
+        ((hasOne bs ≡ false) × ((b || hasOne bs) ≡ true) × (ss ≡ [])) ⊎ ((xs : List Side) × (stopped bs ≡ Some xs) × (ss ≡ sideOf b ∷ xs))
     go false y p q f = absurd (let z : _≡_ {A = ℕ} 0 1 = cc in omega arith)
     go true false p q f = let z : [] ≡ ss = cc in inl (q, p, sym z)
     go true true p q f =
@@ -89,7 +89,7 @@ down-written (suc k) r ss l e =
     by (stop-cases (bit k r) (bitsFrom k r) ss e) (λ xs q. down-written k (r % 2 ^ k) xs (low-below k r) (ap stopped (bits-low k r) ∙ q))
   where
     by : ((hasOne (bitsFrom k r) ≡ false) × (hasOne (bit k r ∷ bitsFrom k r) ≡ true) × (ss ≡ [])) ⊎ ((xs : List Side) × (stopped (bitsFrom k r) ≡ Some xs) × (ss ≡ sideOf (bit k r) ∷ xs)) →
-      ((xs : List Side) → stopped (bitsFrom k r) ≡ Some xs → Written k xs (r % 2 ^ k)) → Written (suc k) ss r
+        ((xs : List Side) → stopped (bitsFrom k r) ≡ Some xs → Written k xs (r % 2 ^ k)) → Written (suc k) ss r
     by (inl (n, h, z)) ih = rw z (stop-here k r l n h)
     by (inr (xs, q, z)) ih = rw z (further k r (bit k r) xs l refl (ih xs q))
 
@@ -98,12 +98,12 @@ Read k r m = (routeFor k (m .ups) (m .descents) ≡ r) × (m .ups + length (m .d
 
 -- an up, or the turn
 up-cases : (b : Bool) (bs : List Bool) (m : Leads) → readBits (b ∷ bs) ≡ Some m →
-  ((b ≡ true) × ((n : Leads) × (readBits bs ≡ Some n) × (m ≡ leads (suc (n .ups)) (n .descents)))) ⊎ ((b ≡ false) × ((ss : List Side) × (stopped bs ≡ Some ss) × (m ≡ leads 0 ss)))
+    ((b ≡ true) × ((n : Leads) × (readBits bs ≡ Some n) × (m ≡ leads (suc (n .ups)) (n .descents)))) ⊎ ((b ≡ false) × ((ss : List Side) × (stopped bs ≡ Some ss) × (m ≡ leads 0 ss)))
 unfolding readBits upsOf afterTurn
 up-cases true bs m e = inl (refl, go (stopped (afterTurn bs)) refl e)
   where
     go : (o : Option (List Side)) → stopped (afterTurn bs) ≡ o → leadsBy (suc (upsOf bs)) o ≡ Some m →
-      (n : Leads) × (leadsBy (upsOf bs) (stopped (afterTurn bs)) ≡ Some n) × (m ≡ leads (suc (n .ups)) (n .descents))
+        (n : Leads) × (leadsBy (upsOf bs) (stopped (afterTurn bs)) ≡ Some n) × (m ≡ leads (suc (n .ups)) (n .descents))
     go None q f = absurd (let z : _≡_ {A = ℕ} 0 1 = cc in omega arith)
     go (Some ss) q f = let z : leads (suc (upsOf bs)) ss ≡ m = cc in (leads (upsOf bs) ss, ap (leadsBy (upsOf bs)) q, sym z)
 up-cases false bs m e = inr (refl, go (stopped bs) refl e)
@@ -124,8 +124,8 @@ route-written (suc k) r m l e =
     by (up-cases (bit k r) (bitsFrom k r) m e) (λ n q. route-written k (r % 2 ^ k) n (low-below k r) (ap readBits (bits-low k r) ∙ q))
   where
     by : ((bit k r ≡ true) × ((n : Leads) × (readBits (bitsFrom k r) ≡ Some n) × (m ≡ leads (suc (n .ups)) (n .descents)))) ⊎
-      ((bit k r ≡ false) × ((ss : List Side) × (stopped (bitsFrom k r) ≡ Some ss) × (m ≡ leads 0 ss))) →
-      ((n : Leads) → readBits (bitsFrom k r) ≡ Some n → Read k (r % 2 ^ k) n) → Read (suc k) r m
+        ((bit k r ≡ false) × ((ss : List Side) × (stopped (bitsFrom k r) ≡ Some ss) × (m ≡ leads 0 ss))) →
+        ((n : Leads) → readBits (bitsFrom k r) ≡ Some n → Read k (r % 2 ^ k) n) → Read (suc k) r m
     by (inl (b, (n, q, z))) ih = let (w, x) = ih n q in let h = high-one k r l b in rw z (omega arith, omega arith)
     by (inr (b, (ss, q, z))) ih =
         let h = high-zero k r l b in

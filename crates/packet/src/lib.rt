@@ -5,8 +5,6 @@ mod heads;
 mod packets;
 mod routes;
 mod sides;
-#[cfg(test)]
-mod tests;
 mod words;
 
 pub use arrivals::Arrival;

@@ -21,7 +21,12 @@ struct Tally {
 }
 
 // Answers a line before the wiring is known.
-fn wire<O: Write>(out: &mut O, heap: Global, tally: &mut Tally, line: &[u8]) -> io::Result<Option<Cabinet>> {
+fn wire<O: Write>(
+    out: &mut O,
+    heap: Global,
+    tally: &mut Tally,
+    line: &[u8],
+) -> io::Result<Option<Cabinet>> {
     match read_wiring(heap, line) {
         Ok(cabinet) => {
             let cards = cabinet.cards();
@@ -37,7 +42,13 @@ fn wire<O: Write>(out: &mut O, heap: Global, tally: &mut Tally, line: &[u8]) -> 
 }
 
 // Answers an order.
-fn plan<O: Write>(out: &mut O, heap: Global, tally: &mut Tally, cabinet: &Cabinet, line: &[u8]) -> io::Result<()> {
+fn plan<O: Write>(
+    out: &mut O,
+    heap: Global,
+    tally: &mut Tally,
+    cabinet: &Cabinet,
+    line: &[u8],
+) -> io::Result<()> {
     match answer_order(heap, cabinet, line) {
         Ok(plan) => {
             tally.planned = tally.planned.saturating_add(1);

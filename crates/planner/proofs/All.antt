@@ -35,7 +35,7 @@ module _ {X : Type 0} (f : List ℕ → Option X) where
   one-more vs v (Some xs) = ap Some (append-assoc vs (v ∷ []) xs)
 
   pub all-more : (vs : List X) (v : X) (x : List ℕ) (fs : List (List ℕ)) → Some x ≡ firstOf fs → Some v ≡ f x →
-    behind vs (readAll f fs) ≡ behind (vs ++ (v ∷ [])) (readAll f (restOf fs))
+      behind vs (readAll f fs) ≡ behind (vs ++ (v ∷ [])) (readAll f (restOf fs))
   all-more vs v x [] e b = absurd (let z : _≡_ {A = ℕ} 0 1 = cc in omega arith)
   all-more vs v x (y ∷ ys) e b =
       let q : x ≡ y = cc in

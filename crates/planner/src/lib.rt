@@ -1,10 +1,10 @@
 // Plans a batch of route orders, line by line.
-mod plans;
-mod reading;
+mod cabinets;
 mod faults;
 mod orders;
+mod plans;
 mod printing;
-mod cabinets;
+mod reading;
 
 pub use cabinets::Cabinet;
 pub use cabinets::CabinetWiring;
@@ -13,5 +13,5 @@ pub use faults::PlanFault;
 pub use faults::PlanFaultDisplay;
 pub use orders::answer_order;
 pub use plans::Plan;
-pub use printing::PlanDisplay;
 pub use plans::plan_order;
+pub use printing::PlanDisplay;

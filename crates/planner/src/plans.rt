@@ -4,11 +4,11 @@ ghost use Rattle.planner.specs.Plans.{Planned};
 use packet::Head;
 use refusal::OrderFault;
 use routing::Walk;
-use wiring::Wiring;
 use routing::cards_reached;
 use routing::hops_a_word;
 use routing::order;
 use routing::walk_route;
+use wiring::Wiring;
 
 // What an order comes to: the head, where its route leads, how many cards it reaches, and the hops of each word.
 #[derive(Clone, Copy)]

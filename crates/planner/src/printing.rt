@@ -24,10 +24,12 @@ impl fmt::Display for Letters as LettersDisplay {
                 break;
             };
             let (side, rest) = split;
-            f.write_str(match side {
-                Side::Left => "L",
-                Side::Right => "R",
-            })?;
+            f.write_str(
+                match side {
+                    Side::Left => "L",
+                    Side::Right => "R",
+                },
+            )?;
             left = rest;
         }
         f.write_str("S")
@@ -49,7 +51,10 @@ pub impl fmt::Display for Plan as PlanDisplay {
             Mode::Target => "target",
             Mode::Flood => "flood",
         };
-        write!(f, "head {head:08x}, route {letters}, {ups} up to card {turn}, {descents} down to card {terminus}, ")?;
+        write!(
+            f,
+            "head {head:08x}, route {letters}, {ups} up to card {turn}, {descents} down to card {terminus}, "
+        )?;
         write!(f, "{mode}, cards reached {reached}, hops a word {hops}")
     }
 }

@@ -49,7 +49,10 @@ pub(crate) impl Spelled for u8 as EntrySpelled {
 }
 
 // Every field that is left, or none where one of them is not understood.
-pub(crate) fn read_all<T: Spelled>(heap: Global, fields: Fields) -> Result<Option<Vec<T>>, AllocError>
+pub(crate) fn read_all<T: Spelled>(
+    heap: Global,
+    fields: Fields,
+) -> Result<Option<Vec<T>>, AllocError>
     ensures { λ r. ⌜ made r (λ o. listTold o ≡ readAll (T·Spelled .spells) (fieldsLeft (fields .entry))) ⌝ }
 {
     let mut fields = fields;

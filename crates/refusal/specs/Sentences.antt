@@ -22,7 +22,6 @@ use Rattle.refusal.specs.declared.drive.DeliveryFault.{DeliveryFault}
 use Rattle.refusal.specs.declared.drive.DeliveryFault.the-variants.{WrongKind, WrongBits}
 use Rattle.refusal.specs.declared.order.OrderFault.{OrderFault}
 use Rattle.refusal.specs.declared.order.OrderFault.the-variants.{Unknown, NoneListed, TooLong}
-
 use Rattle.refusal.specs.Numbers.{refusalText}
 
 -- what is printed of a refusal: its number and place, and what is wrong

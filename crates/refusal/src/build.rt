@@ -31,8 +31,10 @@ impl WiringFault {
         ensures { λ r. ⌜ now r ≡ wiringReason (now (self .entry)) ⌝ }
     {
         match *self {
-            WiringFault::Size => "a tree has 1 to 5 levels, and a table two entries for each of 1 to 31 cards",
-            WiringFault::Broken => "the table is no tree in which each card but 0 has one parent of a lower number",
+            WiringFault::Size =>
+                "a tree has 1 to 5 levels, and a table two entries for each of 1 to 31 cards",
+            WiringFault::Broken =>
+                "the table is no tree in which each card but 0 has one parent of a lower number",
         }
     }
 }
@@ -71,7 +73,8 @@ impl LicenceFault {
         ensures { λ r. ⌜ now r ≡ licenceReason (now (self .entry)) ⌝ }
     {
         match *self {
-            LicenceFault::BadRule => "a bound, the class, the key value or the card set of the rule is out of range",
+            LicenceFault::BadRule =>
+                "a bound, the class, the key value or the card set of the rule is out of range",
             LicenceFault::TooManyRules => "a book has at most 64 rules",
         }
     }

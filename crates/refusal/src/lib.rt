@@ -4,8 +4,6 @@ mod build;
 mod drive;
 mod order;
 mod send;
-#[cfg(test)]
-mod tests;
 
 pub use answer::Refusal;
 pub use answer::RefusalDisplay;

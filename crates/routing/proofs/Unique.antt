@@ -79,8 +79,8 @@ module _ (s : Shape) (L : Lawful s) where
   sides-more (suc k) t d u b acc e q = by (s .parent t) e (λ p i. sides-more k p d u b (i ∷ acc))
     where
       by : (o : Option (ℕ × Side)) → fromParent (climb s k) o ≡ Some d →
-        ((p : ℕ) (i : Side) → climb s k p ≡ Some d → s .parent d ≡ Some (u, b) → sidesUp (suc k) p (i ∷ acc) ≡ b ∷ sidesUp k p (i ∷ acc)) →
-        sidesBy (sidesUp (suc k)) acc o ≡ b ∷ sidesBy (sidesUp k) acc o
+          ((p : ℕ) (i : Side) → climb s k p ≡ Some d → s .parent d ≡ Some (u, b) → sidesUp (suc k) p (i ∷ acc) ≡ b ∷ sidesUp k p (i ∷ acc)) →
+          sidesBy (sidesUp (suc k)) acc o ≡ b ∷ sidesBy (sidesUp k) acc o
       by None f ih = absurd (let z : _≡_ {A = ℕ} 0 1 = cc in omega arith)
       by (Some (p, i)) f ih = ih p i f q
 
@@ -97,9 +97,10 @@ module _ (s : Shape) (L : Lawful s) where
       by None q f ih = absurd (let z : _≡_ {A = ℕ} 0 1 = cc in omega arith)
       by (Some d) q f ih =
           let (x, y) = ih d f in
-          let p = L .told b u d q in
-          (ap (λ (n : ℕ). climb s n t) (sym (add-one (length bs))) ∙ climb-more s (length bs) t d u b x p,
-           sides-more (length bs) t d u b [] x p ∙ ap (λ (xs : List Side). b ∷ xs) y)
+          let p = L .told b u d q in (
+            ap (λ (n : ℕ). climb s n t) (sym (add-one (length bs))) ∙ climb-more s (length bs) t d u b x p,
+            sides-more (length bs) t d u b [] x p ∙ ap (λ (xs : List Side). b ∷ xs) y,
+          )
 
   pub one-descent : (xs ys : List Side) (u t : ℕ) → descend s xs u ≡ Ok t → descend s ys u ≡ Ok t → xs ≡ ys
   one-descent xs ys u t e f =
@@ -144,7 +145,7 @@ module _ (s : Shape) (L : Lawful s) where
       (l, k .walk .turn, k .turns, q, d ∙ ap Ok (k .ends), r, n)
 
   one-way : (c t u v a b : ℕ) (xs ys : List Side) → Lowest s (c ∷ t ∷ []) u → Lowest s (c ∷ t ∷ []) v → climb s a c ≡ Some u → climb s b c ≡ Some v → descend s xs u ≡ Ok t → descend s ys v ≡ Ok t →
-    (a ≡ b) × (xs ≡ ys)
+      (a ≡ b) × (xs ≡ ys)
   one-way c t u v a b xs ys lu lv cu cv du dv =
       let e = one-lowest (c ∷ t ∷ []) u v lu lv in
       (one-climb a b c u cu (cv ∙ ap Some (sym e)), one-descent xs ys u t du (ap (descend s ys) e ∙ dv))

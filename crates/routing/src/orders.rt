@@ -11,13 +11,13 @@ ghost use Rattle.packet.specs.Courses.{sidesTold, courseTold};
 ghost use Rattle.routing.specs.Walks.{climb};
 ghost use Rattle.routing.specs.Subtrees.{covers, coversAll};
 ghost use Rattle.routing.specs.Orders.{allOf, modeFor, WayDown, CourseTo, HeadTo, headIn, Ordered, headTold};
-use wiring::Wiring;
 use packet::Course;
 use packet::Head;
 use packet::Mode;
 use packet::Side;
 use packet::Sides;
 use refusal::OrderFault;
+use wiring::Wiring;
 
 // The parent of any card but card 0, and the card's side.
 fn parent_of<W: Wiring>(wiring: &W, card: u16) -> (u16, Side)

@@ -3,8 +3,8 @@ ghost use mathlib.Core.Path.{_≡_};
 ghost use Prim.Native.Nat.{_≤_};
 ghost use Rattle.routing.specs.Subtrees.{covers, subtreeSize, reach, hopsAWord, pathHops};
 use crate::walks::Walk;
-use wiring::Wiring;
 use packet::Mode;
+use wiring::Wiring;
 
 // Whether the subtree of `top` has the card. Parents have lower numbers, so the way up ends at `top` or passes it.
 pub fn stands_over<W: Wiring>(wiring: &W, top: u16, card: u16) -> bool

@@ -3,11 +3,11 @@ ghost use mathlib.Core.Path.{_≡_};
 ghost use Prim.Native.Nat.{ℕ};
 ghost use Rattle.packet.specs.Courses.{sidesIn};
 ghost use Rattle.routing.specs.Walks.{climb, descend, walkOf};
-use wiring::Wiring;
 use packet::Course;
 use packet::Route;
 use packet::Sides;
 use refusal::RouteFault;
+use wiring::Wiring;
 
 // Where a route leads: the card where it turns, the terminus, and how many links up and down.
 #[derive(Clone, Copy)]

@@ -6,8 +6,6 @@
 // Nothing is allocated: a field is a part of the caller's line.
 mod fields;
 mod number;
-#[cfg(test)]
-mod tests;
 mod word;
 
 pub use fields::Fields;

@@ -3,9 +3,9 @@ ghost use Rattle.licence.specs.Granted.{granted};
 ghost use Rattle.licence.specs.Patterns.{patternOf, patternIn, patternCovers, patternCarries};
 use super::KeyPattern;
 use super::PatternRule;
-use refusal::LicenceFault;
 use crate::rule::Rule;
 use crate::verdict::Verdict;
+use refusal::LicenceFault;
 
 // A set of cards has a bit for each card below this one.
 const CARDS: u16 = 31;

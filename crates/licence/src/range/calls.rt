@@ -3,9 +3,9 @@ ghost use Rattle.licence.specs.Granted.{granted};
 ghost use Rattle.licence.specs.Ranges.{rangeOf, rangeIn, rangeCovers, rangeCarries};
 use super::RangeRule;
 use super::Span;
-use refusal::LicenceFault;
 use crate::rule::Rule;
 use crate::verdict::Verdict;
+use refusal::LicenceFault;
 
 impl RangeRule {
     // Refused are a span that runs backwards and a class that there is not.

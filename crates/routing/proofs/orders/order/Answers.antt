@@ -27,11 +27,11 @@ returns-then-sender-n g c =
     let cs = c .args .cards .now in
     let n = c .cards-n .ensures in
     let x : Ordered s (c .args .sender) cs (Err Unknown) =
-      elim (c .then-sender-n .came) [
-        | then-sender-n·by·then-sender-n w ↦ sender-unknown s (c .args .sender) cs (omega arith)
-        | then-sender-n·by·else-sender-n·then-not-all-below w ↦
-            listed-unknown s (c .args .sender) cs (sym (counted s (c .cards-n .result) cs n) ∙ (sym (w .all-below .ensures) ∙ w .if-not-all-below .taken))
-      ] in
+    elim (c .then-sender-n .came) [
+      | then-sender-n·by·then-sender-n w ↦ sender-unknown s (c .args .sender) cs (omega arith)
+      | then-sender-n·by·else-sender-n·then-not-all-below w ↦
+          listed-unknown s (c .args .sender) cs (sym (counted s (c .cards-n .result) cs n) ∙ (sym (w .all-below .ensures) ∙ w .if-not-all-below .taken))
+    ] in
     record { answer = x; only = λ q k. one-answer s L (c .args .sender) cs q (Err Unknown) k x }
 
 pub returns-in-rest : need.returns-in-rest
@@ -40,9 +40,10 @@ returns-in-rest g c =
     let L = g .W·Wiring·met .lawful (c .args .wiring .now) in
     let cs = c .args .cards .now in
     let n = c .cards-n .ensures in
-    let x : Ordered s (c .args .sender) cs (Err NoneListed) =
-      (all-known s (c .args .sender) cs (omega arith) (sym (counted s (c .cards-n .result) cs n) ∙ (sym (c .all-below .ensures) ∙ c .if-not-all-below .left)),
-       none-listed cs (search needs)) in
+    let x : Ordered s (c .args .sender) cs (Err NoneListed) = (
+      all-known s (c .args .sender) cs (omega arith) (sym (counted s (c .cards-n .result) cs n) ∙ (sym (c .all-below .ensures) ∙ c .if-not-all-below .left)),
+      none-listed cs (search needs),
+    ) in
     record { answer = x; only = λ q k. one-answer s L (c .args .sender) cs q (Err NoneListed) k x }
 
 pub lowest-terminus-requires : need.lowest-terminus-requires
@@ -61,9 +62,10 @@ returns-in-Some g c =
     let n = c .cards-n .ensures in
     let l : 0 < length cs = search needs in
     let h = headWord (c .in-Some .head .mode) (c .in-Some .head .route .bits) in
-    let x : Ordered s (c .args .sender) cs (Ok h) =
-      (all-known s (c .args .sender) cs (omega arith) (sym (counted s (c .cards-n .result) cs n) ∙ (sym (c .all-below .ensures) ∙ c .if-not-all-below .left)),
-       served s L (c .args .sender) cs l (c .lowest-terminus .result) (c .lowest-terminus .ensures .meets) h (c .mode-for .result) (c .mode-for .ensures) (c .in-Some .ensures tt)) in
+    let x : Ordered s (c .args .sender) cs (Ok h) = (
+      all-known s (c .args .sender) cs (omega arith) (sym (counted s (c .cards-n .result) cs n) ∙ (sym (c .all-below .ensures) ∙ c .if-not-all-below .left)),
+      served s L (c .args .sender) cs l (c .lowest-terminus .result) (c .lowest-terminus .ensures .meets) h (c .mode-for .result) (c .mode-for .ensures) (c .in-Some .ensures tt),
+    ) in
     record { answer = x; only = λ q k. one-answer s L (c .args .sender) cs q (Ok h) k x }
 
 pub returns-in-None : need.returns-in-None
@@ -73,7 +75,8 @@ returns-in-None g c =
     let cs = c .args .cards .now in
     let n = c .cards-n .ensures in
     let l : 0 < length cs = search needs in
-    let x : Ordered s (c .args .sender) cs (Err TooLong) =
-      (all-known s (c .args .sender) cs (omega arith) (sym (counted s (c .cards-n .result) cs n) ∙ (sym (c .all-below .ensures) ∙ c .if-not-all-below .left)),
-       unserved s L (c .args .sender) cs l (c .lowest-terminus .result) (c .lowest-terminus .ensures .meets) (c .in-None .ensures tt)) in
+    let x : Ordered s (c .args .sender) cs (Err TooLong) = (
+      all-known s (c .args .sender) cs (omega arith) (sym (counted s (c .cards-n .result) cs n) ∙ (sym (c .all-below .ensures) ∙ c .if-not-all-below .left)),
+      unserved s L (c .args .sender) cs l (c .lowest-terminus .result) (c .lowest-terminus .ensures .meets) (c .in-None .ensures tt),
+    ) in
     record { answer = x; only = λ q k. one-answer s L (c .args .sender) cs q (Err TooLong) k x }

@@ -1,5 +1,5 @@
 // Faults as they are answered.
-use super::*;
+use refusal::*;
 use std::test::*;
 
 fn climb() -> Result<u16, RouteFault> {

@@ -1,9 +1,9 @@
 // Worked examples of full trees, route orders and walks.
-use crate::*;
 use packet::Mode;
 use packet::Route;
 use packet::Side;
 use refusal::Refusal;
+use routing::*;
 use std::test::*;
 use wiring::FullTree;
 use wiring::FullTreeWiring;
@@ -71,11 +71,7 @@ fn orders_made_and_refused() -> Result<(), Fail> {
 }
 
 // The turn, the terminus and the hops of four flooding words, or the refusal's number and place.
-fn walked(
-    tree: &FullTree,
-    card: u16,
-    route: u32,
-) -> Result<(u16, u16, u64), (u8, Option<usize>)> {
+fn walked(tree: &FullTree, card: u16, route: u32) -> Result<(u16, u16, u64), (u8, Option<usize>)> {
     match walk_route(tree, card, Route::low(route)) {
         Ok(walk) => Ok((
             walk.turn,

@@ -1,5 +1,5 @@
 // Worked examples of heads, packets and delivered words.
-use crate::*;
+use packet::*;
 use refusal::Refusal;
 use std::test::Fail;
 use std::test::check as holds;

@@ -1,16 +1,17 @@
-use crate::Book;
-use crate::BookPolicy;
-use crate::KeyPattern;
+// Rules, books and layers.
+use licence::Book;
+use licence::BookPolicy;
+use licence::KeyPattern;
+use licence::PatternAsRule;
+use licence::PatternRule;
+use licence::Policy;
+use licence::RangeAsRule;
+use licence::RangeRule;
+use licence::Span;
+use licence::Verdict;
+use licence::Withdrawal;
+use licence::WithdrawalPolicy;
 use refusal::LicenceFault;
-use crate::PatternAsRule;
-use crate::PatternRule;
-use crate::Policy;
-use crate::RangeAsRule;
-use crate::RangeRule;
-use crate::Span;
-use crate::Verdict;
-use crate::Withdrawal;
-use crate::WithdrawalPolicy;
 use std::test::*;
 
 // Does the policy answer each card and key with this class, 9 for 'refuse'?

@@ -1,6 +1,6 @@
-// Examples.
-use crate::*;
+// Fields of a line.
 use std::test::*;
+use text::*;
 
 #[test]
 fn cuts_at_each_space() -> Result<(), Fail> {
