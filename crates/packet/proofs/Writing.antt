@@ -15,7 +15,7 @@ use Rattle.std.specs.declared.option.Option.the-variants.{Some, None}
 use Rattle.packet.specs.declared.sides.Side.{Side}
 use Rattle.packet.specs.declared.sides.Side.the-variants.{Left, Right}
 use Rattle.packet.specs.Words.{bit}
-use Rattle.packet.specs.Routes.{Leads, leads, leadsBy, bitsFrom, hasOne, upsOf, afterTurn, beforeStop, stopped, sideOf, readBits, readRoute, routeBits, routeWidth, downFor, routeFor, writeRoute}
+use Rattle.packet.specs.Routes.{Leads, leads, leadsBy, bitsFrom, hasOne, upsOf, afterTurn, beforeStop, stopped, sideOf, readBits, readRoute, routeBits, downFor, routeFor, writeRoute}
 use Rattle.packet.specs.Courses.{sidesBefore, splitSides}
 use Rattle.packet.proofs.Bits.{split-top, bits-same, bits-low, has-one}
 use Rattle.packet.proofs.Reading.{masked}
@@ -175,7 +175,6 @@ written a c b l m =
 
 pub writes : (a c b : ℕ) → a + c ≤ 7 → b < 2 ^ c →
     Some (512 - 512 / 2 ^ a + ((2 * b + 1) * 2 ^ (7 - a - c)) % 65536) ≡ writeRoute (leads a (map sideOf (bitsFrom c b)))
-unfolding routeWidth
 writes a c b l m =
     let n = sides-length c b in
     rw (written a c b l m, le-leb (a + length (map sideOf (bitsFrom c b))) 7 (omega arith))
@@ -187,7 +186,7 @@ writes-none a c b l =
 
 pub reads : (a c b : ℕ) → a + c ≤ 7 → b < 2 ^ c →
     readRoute (512 - 512 / 2 ^ a + ((2 * b + 1) * 2 ^ (7 - a - c)) % 65536) ≡ Some (leads a (map sideOf (bitsFrom c b)))
-unfolding readRoute routeBits routeWidth
+unfolding readRoute routeBits
 reads a c b l m =
     let n = sides-length c b in
     ap (λ (r : ℕ). readBits (bitsFrom 9 r)) (written a c b l m) ∙ reads-back 9 a (map sideOf (bitsFrom c b)) (omega arith)

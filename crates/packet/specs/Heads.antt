@@ -1,11 +1,12 @@
 -- Heads and key words, bit by bit.
 use mathlib.Core.Bool.{Bool, true, false, cond}
-use Prim.Native.Nat.{ℕ, _+_, _*_, _/_, _%_, _^_}
+use Prim.Native.Nat.{ℕ, _+_, _-_, _*_, _/_, _%_, _^_}
 use lib.Dec.{eqb}
 use Rattle.packet.specs.declared.heads.Mode.{Mode}
 use Rattle.packet.specs.declared.heads.Mode.the-variants.{Target, Flood}
 use Rattle.packet.specs.declared.heads.KeyWord.{KeyWord}
 use Rattle.packet.specs.Words.{bit}
+use Rattle.packet.specs.Routes.{routeWidth}
 
 -- bit 29 of a head: 1 floods, 0 targets
 abbrev pub modeOf : ℕ → Mode
@@ -19,9 +20,9 @@ modeBit Flood = 1
 abbrev pub headWord : Mode → ℕ → ℕ
 headWord m r = 2 * 2 ^ 30 + modeBit m * 2 ^ 29 + r
 
--- bits 28 to 9 of a head are reserved
+-- the bits of a head between its mode and its route, 28 to 9, are reserved
 abbrev pub headReserved : ℕ → Bool
-headReserved h = eqb (h / 2 ^ 9 % 2 ^ 20) 0
+headReserved h = eqb (h / 2 ^ routeWidth % 2 ^ (29 - routeWidth)) 0
 
 -- bits 29 to 8 of a key word as sent are reserved
 abbrev pub keyReserved : ℕ → Bool

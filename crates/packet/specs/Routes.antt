@@ -12,7 +12,7 @@ use Rattle.packet.specs.declared.sides.Side.the-variants.{Left, Right}
 use Rattle.packet.specs.Words.{bit}
 
 -- the number of bits of a route
-unfoldable pub routeWidth : ℕ
+abbrev pub routeWidth : ℕ
 routeWidth = 9
 
 -- the low k bits of a number, the highest first
@@ -26,7 +26,7 @@ routeBits r = bitsFrom routeWidth r
 
 -- the route in the low bits of a head
 abbrev pub routeIn : ℕ → ℕ
-routeIn w = w % 512
+routeIn w = w % 2 ^ routeWidth
 
 -- 0 is the left daughter's side, 1 the right daughter's
 abbrev pub sideOf : Bool → Side
@@ -99,7 +99,7 @@ routeFor (suc k) (suc a) ss = 2 ^ k + routeFor k a ss
 
 -- a route has room for so many ups and descents together: the turn and the stop take two bits
 abbrev pub routeRoom : ℕ
-routeRoom = 7
+routeRoom = routeWidth - 2
 
 abbrev pub fitsRoute : Leads → Bool
 fitsRoute l = leb (l .ups + length (l .descents)) routeRoom

@@ -12,7 +12,7 @@ use Rattle.refusal.specs.declared.send.RouteFault.the-variants.{EndsGoingUp, Ab
 use Rattle.refusal.specs.declared.order.OrderFault.the-variants.{TooLong}
 use Rattle.packet.specs.declared.sides.Side.{Side}
 use Rattle.packet.specs.declared.sides.Side.the-variants.{Left, Right}
-use Rattle.packet.specs.Routes.{routeIn, routeRoom, bitsFrom, routeBits, routeWidth, hasOne, upsOf, afterTurn, beforeStop, readBits, readRoute}
+use Rattle.packet.specs.Routes.{routeIn, routeRoom, bitsFrom, routeBits, hasOne, upsOf, afterTurn, beforeStop, readBits, readRoute}
 use Rattle.packet.specs.Heads.{modeOf, headWord}
 use Rattle.routing.specs.declared.walks.Walk.{Walk}
 use Rattle.wiring.specs.Shapes.{Shape, Lawful, fullShape}
@@ -62,7 +62,7 @@ five : Lawful (full 5)
 five = full-lawful 31 (omega arith) (omega arith)
 
 pub all-hold : AllHold worked
-unfolding bitsFrom routeBits routeWidth hasOne upsOf afterTurn beforeStop readBits readRoute climb descend coversIn covers coversAll countBelow subtreeSize allOf everyBelow lowestTest
+unfolding bitsFrom routeBits hasOne upsOf afterTurn beforeStop readBits readRoute climb descend coversIn covers coversAll countBelow subtreeSize allOf everyBelow lowestTest
 all-hold = (
   made-by (full 3) three 3 5 (6 ∷ []) 0xA00001B0 7 (walked 0 2 2 1) refl refl refl refl refl refl,
   (

@@ -15,7 +15,7 @@ use Rattle.refusal.specs.declared.order.OrderFault.{OrderFault}
 use Rattle.refusal.specs.declared.order.OrderFault.the-variants.{Unknown, NoneListed, TooLong}
 use Rattle.packet.specs.declared.sides.Side.{Side}
 use Rattle.packet.specs.declared.heads.Mode.{Mode}
-use Rattle.packet.specs.Routes.{Leads, leads, routeIn, readRoute, routeBits, routeWidth, routeFor}
+use Rattle.packet.specs.Routes.{Leads, leads, routeIn, readRoute, routeBits, routeFor}
 use Rattle.packet.specs.Heads.{headWord}
 use Rattle.packet.proofs.Rewritten.{route-written}
 use Rattle.wiring.specs.Shapes.{Shape, Lawful}
@@ -138,7 +138,7 @@ module _ (s : Shape) (L : Lawful s) where
       (routeFor 9 (l .ups) (l .descents) ≡ routeIn h) × (l .ups + length (l .descents) + 2 ≤ 9)
 
   way-of : (c t h : ℕ) (m : Mode) → LeadsTo s c t m h → Way c t h
-  unfolding readRoute routeBits routeWidth
+  unfolding readRoute routeBits
   way-of c t h m k =
       let (l, p, q, d) = walk-parts c (routeIn h) (k .walk) (k .leads) in
       let (r, n) = route-written 9 (routeIn h) l (omega arith) p in

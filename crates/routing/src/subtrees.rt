@@ -1,6 +1,5 @@
 // The subtree of a card, and the hops of a packet over any wiring.
 ghost use mathlib.Core.Path.{_≡_};
-ghost use Prim.Native.Nat.{_≤_};
 ghost use Rattle.routing.specs.Subtrees.{covers, subtreeSize, reach, hopsAWord, pathHops};
 use crate::walks::Walk;
 use packet::Mode;
@@ -22,8 +21,7 @@ pub fn stands_over<W: Wiring>(wiring: &W, top: u16, card: u16) -> bool
 
 // How many cards the subtree of this card has, itself counted.
 pub fn subtree_size<W: Wiring>(wiring: &W, card: u16) -> u16
-    ensures size { λ r. ⌜ r ≡ subtreeSize (shape (now (wiring .entry))) card ⌝ }
-    ensures few { λ r. ⌜ r ≤ 31 ⌝ }
+    ensures { λ r. ⌜ r ≡ subtreeSize (shape (now (wiring .entry))) card ⌝ }
 {
     let mut size = 0;
     for other in 0..wiring.cards() {
@@ -36,8 +34,7 @@ pub fn subtree_size<W: Wiring>(wiring: &W, card: u16) -> u16
 
 // How many cards a packet of this mode and terminus reaches.
 pub fn cards_reached<W: Wiring>(wiring: &W, mode: Mode, terminus: u16) -> u16
-    ensures reach { λ r. ⌜ r ≡ reach (shape (now (wiring .entry))) mode terminus ⌝ }
-    ensures few { λ r. ⌜ r ≤ 31 ⌝ }
+    ensures { λ r. ⌜ r ≡ reach (shape (now (wiring .entry))) mode terminus ⌝ }
 {
     match mode {
         Mode::Target => 1,
@@ -47,8 +44,7 @@ pub fn cards_reached<W: Wiring>(wiring: &W, mode: Mode, terminus: u16) -> u16
 
 // The stations that each word of a packet passes on this walk.
 pub fn hops_a_word<W: Wiring>(wiring: &W, mode: Mode, walk: &Walk) -> u32
-    ensures hops { λ r. ⌜ r ≡ hopsAWord (shape (now (wiring .entry))) mode (now (walk .entry)) ⌝ }
-    ensures few { λ r. ⌜ r ≤ 131102 ⌝ }
+    ensures { λ r. ⌜ r ≡ hopsAWord (shape (now (wiring .entry))) mode (now (walk .entry)) ⌝ }
 {
     let reached = cards_reached(wiring, mode, walk.terminus);
     u32::from(walk.ups) + 1 + u32::from(walk.descents) + u32::from(reached)

@@ -33,6 +33,5 @@ unfolding subtreeSize
 returns g c =
     let f = covers (g .W·Wiring .shape (c .args .wiring .now)) (c .args .card) in
     let (i, j) = c .loop-other .inv in
-    let few = g .W·Wiring·met .lawful (c .args .wiring .now) .few in
     let e : c .loop-other .other ≡ g .W·Wiring .shape (c .args .wiring .now) .cards = omega arith in
-    record { size = i ∙ ap (λ (n : ℕ). countBelow n f) e; few = omega arith }
+    i ∙ ap (λ (n : ℕ). countBelow n f) e
