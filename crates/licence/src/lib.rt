@@ -1,4 +1,6 @@
 // Who may keep which flooding packets: verdicts, rules, the book and the withdrawal layer.
+#![tactic(auto)]
+
 mod books;
 mod layer;
 mod pattern;

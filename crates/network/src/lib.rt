@@ -1,4 +1,6 @@
 // What the network is, and its laws. The definitions stand in specs/; each theorem is the contract of a function here.
+#![tactic(auto)]
+
 mod laws;
 mod paths;
 mod trees;

@@ -1,4 +1,6 @@
 // Words, heads, routes and packets as bits.
+#![tactic(auto)]
+
 mod arrivals;
 mod delivered;
 mod heads;

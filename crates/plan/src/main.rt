@@ -1,4 +1,6 @@
 // Plans the routes of a batch of orders: a wiring first, then an order to a line. Each line is answered, and a summary ends the answers.
+#![tactic(auto)]
+
 use planner::{Cabinet, answer_order, read_wiring};
 use std::alloc::Global;
 use std::io;

@@ -1,4 +1,6 @@
 // Plans a batch of route orders, line by line.
+#![tactic(auto)]
+
 mod cabinets;
 mod faults;
 mod orders;

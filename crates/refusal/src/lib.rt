@@ -1,4 +1,6 @@
 // Why a call is refused: one enum for each kind of caller, each case with its number, its place and its sentence.
+#![tactic(auto)]
+
 mod answer;
 mod build;
 mod drive;

@@ -1,4 +1,6 @@
 // The tree that runs.
+#![tactic(auto)]
+
 mod calls;
 mod inner;
 mod steps;

@@ -1,4 +1,6 @@
 // Routes over any wiring: the walk, the hops of a packet, and the route maker.
+#![tactic(auto)]
+
 mod orders;
 mod subtrees;
 mod walks;

@@ -1,4 +1,6 @@
 // One station of a card: how it stands, which word may pass, and what becomes of one that does.
+#![tactic(auto)]
+
 mod channel;
 mod hold;
 mod plan;

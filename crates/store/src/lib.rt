@@ -1,5 +1,7 @@
 // The memory of a tree: rings of words, cards, and the table of all cards. This crate is no entry point: the tree above it asks and checks,
 // and what it needs of a caller (a card that is in the table, room in a ring) stands in its `requires`.
+#![tactic(auto)]
+
 mod cards;
 mod moves;
 mod ring;

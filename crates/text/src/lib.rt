@@ -4,6 +4,8 @@
 // row, make an empty field. `Fields` cuts the fields off one by one; `decimal`, `hex_byte`, `hex_word` and
 // `same` read one field, and the first three are methods of `Fields` too, which read the next one.
 // Nothing is allocated: a field is a part of the caller's line.
+#![tactic(auto)]
+
 mod fields;
 mod number;
 mod word;

@@ -1,4 +1,6 @@
 // Worked examples of every library, as tests. They stand in a crate of their own, since a crate with tests is proved twice.
+#![tactic(auto)]
+
 #[cfg(test)]
 mod fields;
 #[cfg(test)]

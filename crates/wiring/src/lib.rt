@@ -1,4 +1,6 @@
 // The tree's shape: wirings as an interface, the full tree, and the tree that a table lists.
+#![tactic(auto)]
+
 mod full;
 mod wire;
 mod wired;
