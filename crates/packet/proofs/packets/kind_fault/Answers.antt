@@ -2,13 +2,13 @@ use Rattle.std.proofs.Common.{rules}
 use Rattle.packet.specs.Packets.{kind_fault, later_fault}
 use Rattle.packet.proofs.packets.kind_fault.Goals as goal
 
-pub returns-then-not-is-head : goal.returns-then-not-is-head
+pub returns-then-not-is_head : goal.returns-then-not-is_head
 unfolding kind_fault
-returns-then-not-is-head c = search rules
+returns-then-not-is_head c = search rules
 
-pub returns-then-not-right-kind : goal.returns-then-not-right-kind
+pub returns-then-not-right_kind : goal.returns-then-not-right_kind
 unfolding kind_fault later_fault
-returns-then-not-right-kind c = search rules
+returns-then-not-right_kind c = search rules
 
 pub returns : goal.returns
 unfolding kind_fault later_fault

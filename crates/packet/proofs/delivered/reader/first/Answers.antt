@@ -9,13 +9,13 @@ loop-i-init c = scan_start c.args.mark c.args.base c.args.words.now
 pub loop-i-preserved : goal.loop-i-preserved
 loop-i-preserved c =
     c.loop-i.invariant ∙
-    scan_skip c.args.mark c.args.base c.loop-i.i c.args.words.now c.loop-i-test.true (c.if-is-on.ensures ∙ ap (marked c.args.mark) c.of.ensures)
+    scan_skip c.args.mark c.args.base c.loop-i.i c.args.words.now c.loop-i-test.true (c.if-is_on.ensures ∙ ap (marked c.args.mark) c.of.ensures)
 
-pub returns-then-is-on : goal.returns-then-is-on
-returns-then-is-on c =
+pub returns-then-is_on : goal.returns-then-is_on
+returns-then-is_on c =
     record {
       value =
-          scan_found c.args.mark c.args.base c.loop-i.i c.args.words.now c.loop-i-test.true (c.if-is-on.ensures ∙ ap (marked c.args.mark) c.of.ensures) ∙
+          scan_found c.args.mark c.args.base c.loop-i.i c.args.words.now c.loop-i-test.true (c.if-is_on.ensures ∙ ap (marked c.args.mark) c.of.ensures) ∙
           sym c.loop-i.invariant;
       within = λ t e. let f : c.args.base + c.loop-i.i ≡ t = cc in (omega arith, omega arith);
     }

@@ -20,17 +20,17 @@ returns-then-ups-gt7 c =
       back = λ x e. absurd (let z : ◌≡◌ {A = ℕ} 0 1 = cc in omega arith);
     }
 
-pub overflow-add-result : goal.overflow-add-result
-overflow-add-result c =
+pub overflow_add-result : goal.overflow_add-result
+overflow_add-result c =
     let s = c.args.self in
     let e = written s.ups s.sides.count s.sides.bits (omega arith) s.sides.fit in
     let l = route_below 9 s.ups (sides_in s.sides) in
     search rules
 
-pub invariant-of-result : goal.invariant-of-result
-invariant-of-result c =
+pub invariant_of-result : goal.invariant_of-result
+invariant_of-result c =
     let s = c.args.self in
-    (rw (written s.ups s.sides.count s.sides.bits (omega arith) s.sides.fit) (route_below 9 s.ups _), tt)
+    record { nine = rw (written s.ups s.sides.count s.sides.bits (omega arith) s.sides.fit) (route_below 9 s.ups _) }
 
 pub returns : goal.returns
 returns c =

@@ -10,12 +10,12 @@ use Rattle.packet.proofs.routes.Sides.after.Goals.{in-Left, in-Right}
 pub returns-then-self-ge7 : goal.returns-then-self-ge7
 returns-then-self-ge7 c = sym (no_room c.args.side c.args.self.count c.args.self.bits c.if-self-ge7.true)
 
-pub invariant-of-result : goal.invariant-of-result
-invariant-of-result c =
+pub invariant_of-result : goal.invariant_of-result
+invariant_of-result c =
     let s = c.args.self in
     elim c.match-side.branch [
-      | in-Left w ↦ (omega arith, (rw w.bits-is (left_front s.count s.bits s.fit).0, tt))
-      | in-Right w ↦ (omega arith, (rw w.bits-is (right_front s.count s.bits s.few s.fit).0, tt))
+      | in-Left w ↦ record { few = omega arith; fit = rw w.bits-is (left_front s.count s.bits s.fit).0 }
+      | in-Right w ↦ record { few = omega arith; fit = rw w.bits-is (right_front s.count s.bits s.few s.fit).0 }
     ]
 
 pub returns : goal.returns

@@ -6,4 +6,4 @@ returns-then-self-eq0 c = split_none c.args.self.count c.args.self.bits c.if-sel
 
 pub returns : goal.returns
 returns c =
-    split_some c.args.self.count c.args.self.bits c.side-at.result c.if-self-eq0.false c.args.self.few c.side-at.ensures
+    split_some c.args.self.count c.args.self.bits c.side_at.result c.if-self-eq0.false c.args.self.few c.side_at.ensures

@@ -22,11 +22,11 @@ loop-low-preserved c =
     let (p, q, s) = cut_zero c.loop-low.count c.loop-low.low i.0 i.1 c.loop-low-test.true in
     (p, q, omega arith, i.3 ∙ s)
 
-pub invariant-of-result : goal.invariant-of-result
-invariant-of-result c =
+pub invariant_of-result : goal.invariant_of-result
+invariant_of-result c =
     let i = c.loop-low.invariant in
     let (q, s, p) = cut_one c.loop-low.count c.loop-low.low i.0 i.1 c.loop-low-test.false in
-    (omega arith, (q, tt))
+    record { few = omega arith; fit = q }
 
 pub returns : goal.returns
 returns c =
