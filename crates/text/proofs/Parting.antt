@@ -1,9 +1,12 @@
 -- The fields of a line are the one way to part it by single spaces.
-use Rattle.std.proofs.Common.{◌≡◌, ℕ, false, eqb, List, [], ◌∷◌, ◌++◌, All, sym, refl, ap, ◌∙◌, ⊎_elim, arith, rules}
+use Rattle.std.proofs.Common.{◌≡◌, ◌≢◌, ℕ, false, eqb, List, [], ◌∷◌, ◌++◌, All, sym, refl, ap, ◌∙◌, ⊎_elim, arith, rules}
 use Rattle.std.proofs.lemmas.Bool.Decides.{eqb_tells}
 use Rattle.std.proofs.lemmas.List.Elements.{All-nil, All-cons, All-head, All-tail}
 use Rattle.text.specs.Fields.{onto, fields_of}
 use Rattle.text.specs.Parted.{spaced, NoSpace, Parted}
+
+abbrev pub NotSpace : ℕ → Type 0
+NotSpace b = b ≢ 32
 
 not_space : (b : ℕ) → (b ≡ 32 → ⊥) → eqb b 32 ≡ false
 not_space b h = search rules
@@ -30,10 +33,13 @@ space_more : (line : List ℕ) (fs : List (List ℕ)) → Parted line fs → Par
 space_more line [] h = absurd (omega (arith, h.some))
 space_more line (f ∷ fs) h = record { some = omega arith; whole = All-cons NoSpace [] (f ∷ fs) (All-nil NotSpace) h.whole; back = ap (λ l. 32 ∷ l) h.back }
 
+longer : (b : ℕ) (f : List ℕ) (fs : List (List ℕ)) → NotSpace b → All NoSpace (f ∷ fs) → All NoSpace ((b ∷ f) ∷ fs)
+longer b f fs e h = All-cons NoSpace (b ∷ f) fs (All-cons NotSpace b f e (All-head NoSpace f fs h)) (All-tail NoSpace f fs h)
+
 byte_more : (b : ℕ) (line : List ℕ) (fs : List (List ℕ)) → (b ≡ 32 → ⊥) → Parted line fs → Parted (b ∷ line) (onto b fs)
 byte_more b line [] e h = absurd (omega (arith, h.some))
-byte_more b line (f ∷ []) e h = record { some = omega arith; whole = longer [] h.whole; back = ap (λ l. b ∷ l) h.back }
-byte_more b line (f ∷ g ∷ fs) e h = record { some = omega arith; whole = longer (g ∷ fs) h.whole; back = ap (λ l. b ∷ l) h.back }
+byte_more b line (f ∷ []) e h = record { some = omega arith; whole = longer b f [] e h.whole; back = ap (λ l. b ∷ l) h.back }
+byte_more b line (f ∷ g ∷ fs) e h = record { some = omega arith; whole = longer b f (g ∷ fs) e h.whole; back = ap (λ l. b ∷ l) h.back }
 
 pub parted_fields : (line : List ℕ) → Parted line (fields_of line)
 parted_fields [] = record { some = omega arith; whole = All-cons NoSpace [] [] (All-nil NotSpace) (All-nil NoSpace); back = refl }

@@ -8,14 +8,17 @@ use Rattle.text.specs.Number.{digit_of, digit_in, number_from, number_of, hex_by
 use Rattle.text.specs.Parted.{NoSpace}
 use Rattle.text.specs.Spelled.{plain_text, byte_text, ReadsBack}
 use Rattle.text.proofs.OneMoreDigit.{enough}
+use Rattle.text.proofs.Parting.{NotSpace}
+use Rattle.std.proofs.lemmas.List.Elements.{All-nil, All-cons}
 
 -- what is read as a number has no space in it
 digit_no_space : (base b v : ℕ) (bs : List ℕ) (k : ℕ → Option ℕ) (o : Option ℕ) → digit_in base b ≡ o → and_then o k ≡ Some v → ((d : ℕ) → k d ≡ Some v → NoSpace bs) → NoSpace (b ∷ bs)
 digit_no_space base b v bs k None is e more = let z : ◌≡◌ {A = ℕ} 0 1 = cc in absurd (omega arith)
-digit_no_space base b v bs k (Some d) is e more = (λ space. let z : ◌≡◌ {A = ℕ} 0 1 = cc (ap (digit_in base) space) in omega arith, more d e)
+digit_no_space base b v bs k (Some d) is e more =
+    All-cons NotSpace b bs (λ space. let z : ◌≡◌ {A = ℕ} 0 1 = cc (ap (digit_in base) space) in omega arith) (more d e)
 
 no_space : (base n : ℕ) (bs : List ℕ) (v : ℕ) → number_from base n bs ≡ Some v → NoSpace bs
-no_space base n [] v e = tt
+no_space base n [] v e = All-nil NotSpace
 no_space base n (b ∷ bs) v e = digit_no_space base b v bs (λ d. number_from base (n * base + d) bs) (digit_in base b) refl e (λ d. no_space base (n * base + d) bs v)
 
 glyph_back : (c : Bool) (d : ℕ) → d < 16 → digit_of (digit_glyph c d) ≡ Some d
