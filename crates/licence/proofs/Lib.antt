@@ -1,3 +1,2 @@
-mod Known
 mod Deciding
 mod Stepping

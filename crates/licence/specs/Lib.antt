@@ -5,3 +5,4 @@ pub mod Patterns
 pub mod Books
 pub mod Keys
 pub mod Layers
+pub mod Known

@@ -1,6 +1,7 @@
 ghost use Rattle.std.specs.Prelude.{◌≡◌};
 ghost use Rattle.licence.specs.Books.{book_of, rules_in, first_of, Decided};
 ghost use Rattle.licence.specs.Granted.{granted};
+ghost use Rattle.licence.specs.Known.{first_known};
 
 use crate::policy::Policy;
 use crate::rule::Rule;
@@ -30,6 +31,8 @@ impl<'a, R: Rule> Book<'a, R> {
 
 impl<'a, R: Rule> Policy for Book<'a, R> {
     ghost verdict = { λ s card key. first_of R.Rule.covering R.Rule.ruling (rules_in s) card key };
+
+    ghost classed = { λ s. first_known R.covering R.ruling R.classed (rules_in s) };
 
     fn ask(&self, card: u16, key: u8) -> Verdict
         ensures meaning { result ≡ first_of R.Rule.covering R.Rule.ruling (rules_in self.now) card key }

@@ -4,17 +4,23 @@ use Rattle.wiring.proofs.Placing.{filled_listed, filled-placed}
 use Rattle.wiring.proofs.Judging.{sound_lawful, lawful_sound}
 use Rattle.wiring.proofs.wired.WiredTree.new.Goals as goal
 
-pub invariant-of-result : goal.invariant-of-result
-invariant-of-result c =
+pub invariant_of-result : goal.invariant_of-result
+invariant_of-result c =
     let t = c.args.table.now in
     let same = c.filled.ensures in
     let sized : Sized t = search rules in
     let ranges : InRange t = search rules in
     let (stand, places) = c.in-Some.ensures in
-    (sized.1, (sized.2, (filled_listed t _ _ same ranges stand places, (places.root, (filled-placed t _ _ same places, tt)))))
+    record {
+      some = sized.1;
+      few = sized.2;
+      listed = filled_listed t _ _ same ranges stand places;
+      root = places.root;
+      placed = filled-placed t _ _ same places;
+    }
 
-pub returns-in-default : goal.returns-in-default
-returns-in-default c =
+pub returns-in_default : goal.returns-in_default
+returns-in_default c =
     let t = c.args.table.now in
     let sized : Sized t = search rules in
     let broken : Sound t → ⊥ = search rules in

@@ -6,4 +6,4 @@ use Rattle.wiring.proofs.wired.tables.filled.Goals as goal
 pub returns : goal.returns
 returns c i =
     let t = c.args.table.now in
-    ap (λ (s : List ℕ). entry_at (s ++ drop (length t) (replicate 62 255)) i) c.copy-from-slice.ensures.after ∙ same_filled t 62 i
+    ap (λ (s : List ℕ). entry_at (s ++ drop (length t) (replicate 62 255)) i) c.copy_from_slice.ensures.after ∙ same_filled t 62 i

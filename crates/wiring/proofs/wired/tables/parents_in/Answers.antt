@@ -7,14 +7,14 @@ use Rattle.wiring.proofs.wired.tables.parents_in.Goals as goal
 pub loop-place-init : goal.loop-place-init
 loop-place-init c = noted_none c.args.table.now
 
-pub may-name-requires : goal.may-name-requires
-may-name-requires c =
+pub may_name-requires : goal.may_name-requires
+may_name-requires c =
     omega (arith, card_named c.args.table.now c.loop-place.parents c.requires.0 c.requires.1 c.loop-place.place c.from-card.result c.loop-place-test.true c.from-card.ensures c.if-entry.false)
 
-pub returns-then-not-may-name : goal.returns-then-not-may-name
-returns-then-not-may-name c =
+pub returns-then-not-may_name : goal.returns-then-not-may_name
+returns-then-not-may_name c =
     not_noted c.args.table.now c.loop-place.parents c.requires.0 c.requires.1 c.loop-place.place c.from-card.result c.loop-place-test.true c.from-card.ensures c.if-entry.false
-    (sym c.if-not-may-name.ensures) c.loop-place.invariant
+    (sym c.if-not-may_name.ensures) c.loop-place.invariant
 
 pub bounds-parents-card : goal.bounds-parents-card
 bounds-parents-card c =
@@ -23,7 +23,7 @@ bounds-parents-card c =
 pub loop-place-preserved : goal.loop-place-preserved
 loop-place-preserved c =
     noted_more c.args.table.now c.loop-place.parents c.requires.0 c.requires.1 c.loop-place.place c.from-card.result c.loop-place-test.true c.from-card.ensures c.if-entry.false
-    (sym c.if-not-may-name.ensures) c.loop-place.invariant
+    (sym c.if-not-may_name.ensures) c.loop-place.invariant
 
 pub returns-then-parents-card : goal.returns-then-parents-card
 returns-then-parents-card c =

@@ -1,5 +1,5 @@
 -- One of two known verdicts is known. So a book's is, if those of its rules are.
-use Rattle.std.proofs.Common.{◌≡◌, ℕ, Bool, true, false, cond, List, [], ◌∷◌, refl}
+use Rattle.std.specs.Prelude.{◌≡◌, ℕ, Bool, true, false, cond, List, [], ◌∷◌, refl}
 use Rattle.licence.specs.declared.verdict.Verdict.{Verdict}
 use Rattle.licence.specs.Verdicts.{known}
 use Rattle.licence.specs.Books.{first_of}
