@@ -12,8 +12,8 @@ use wiring::Wiring;
 
 // The parent of any card but card 0, and the card's side.
 fn parent_of<W: Wiring>(wiring: &W, card: u16) -> (u16, Side)
-    requires { (0 < card) × (card < (shape wiring.now).cards) }
-    ensures { (shape wiring.now).parent card ≡ Some result }
+    requires { (0 < card) × (card < (W.shape wiring.now).cards) }
+    ensures { (W.shape wiring.now).parent card ≡ Some result }
 {
     match wiring.parent(card) {
         Some(parent) => parent,
@@ -23,9 +23,9 @@ fn parent_of<W: Wiring>(wiring: &W, card: u16) -> (u16, Side)
 
 // The lowest card over both: of two cards the one with the higher number is not above the other, so it goes up.
 fn meet<W: Wiring>(wiring: &W, a: u16, b: u16) -> u16
-    requires { (a < (shape wiring.now).cards) × (b < (shape wiring.now).cards) }
-    ensures meets { (u : ℕ) → covers (shape wiring.now) u result ≡ (covers (shape wiring.now) u a && covers (shape wiring.now) u b) }
-    ensures within { result < (shape wiring.now).cards }
+    requires { (a < (W.shape wiring.now).cards) × (b < (W.shape wiring.now).cards) }
+    ensures meets { (u : ℕ) → covers (W.shape wiring.now) u result ≡ (covers (W.shape wiring.now) u a && covers (W.shape wiring.now) u b) }
+    ensures within { result < (W.shape wiring.now).cards }
 {
     let mut x = a;
     let mut y = b;
@@ -65,10 +65,10 @@ fn all_same(first: u16, cards: &[u16]) -> bool
 
 // The lowest card over this one and all the others.
 fn lowest<W: Wiring>(wiring: &W, first: u16, others: &[u16]) -> u16
-    requires first { first < (shape wiring.now).cards }
-    requires others { all_of (λ c. nat_lt c (shape wiring.now).cards) others.now ≡ true }
-    ensures meets { (u : ℕ) → covers (shape wiring.now) u result ≡ (covers (shape wiring.now) u first && covers_all (shape wiring.now) u others.now) }
-    ensures within { result < (shape wiring.now).cards }
+    requires first { first < (W.shape wiring.now).cards }
+    requires others { all_of (λ c. nat_lt c (W.shape wiring.now).cards) others.now ≡ true }
+    ensures meets { (u : ℕ) → covers (W.shape wiring.now) u result ≡ (covers (W.shape wiring.now) u first && covers_all (W.shape wiring.now) u others.now) }
+    ensures within { result < (W.shape wiring.now).cards }
 {
     let mut over = first;
     for card in others {
@@ -79,9 +79,9 @@ fn lowest<W: Wiring>(wiring: &W, first: u16, others: &[u16]) -> u16
 
 // How many links it is up from this card to one that stands over it.
 fn links_up<W: Wiring>(wiring: &W, card: u16, top: u16) -> u16
-    requires within { card < (shape wiring.now).cards }
-    requires over { covers (shape wiring.now) top card ≡ true }
-    ensures { climb (shape wiring.now) result card ≡ Some top }
+    requires within { card < (W.shape wiring.now).cards }
+    requires over { covers (W.shape wiring.now) top card ≡ true }
+    ensures { climb (W.shape wiring.now) result card ≡ Some top }
 {
     let mut at = card;
     let mut ups = 0;
@@ -94,9 +94,9 @@ fn links_up<W: Wiring>(wiring: &W, card: u16, top: u16) -> u16
 
 // The sides of the way down to this card from one that stands over it, or none where there are too many.
 fn sides_down<W: Wiring>(wiring: &W, top: u16, card: u16) -> Option<Sides>
-    requires within { card < (shape wiring.now).cards }
-    requires over { covers (shape wiring.now) top card ≡ true }
-    ensures { WayDown (shape wiring.now) top card (sides_told result) }
+    requires within { card < (W.shape wiring.now).cards }
+    requires over { covers (W.shape wiring.now) top card ≡ true }
+    ensures { WayDown (W.shape wiring.now) top card (sides_told result) }
 {
     let mut at = card;
     let mut sides = Sides::none();
@@ -110,9 +110,9 @@ fn sides_down<W: Wiring>(wiring: &W, top: u16, card: u16) -> Option<Sides>
 
 // The way from the sender to the terminus, up to the lowest card over both and down again, as far as a route has room for its sides.
 fn course_to<W: Wiring>(wiring: &W, sender: u16, terminus: u16) -> Option<Course>
-    requires sender { sender < (shape wiring.now).cards }
-    requires terminus { terminus < (shape wiring.now).cards }
-    ensures { CourseTo (shape wiring.now) sender terminus (course_told result) }
+    requires sender { sender < (W.shape wiring.now).cards }
+    requires terminus { terminus < (W.shape wiring.now).cards }
+    ensures { CourseTo (W.shape wiring.now) sender terminus (course_told result) }
 {
     let turn = meet(wiring, sender, terminus);
     let ups = links_up(wiring, sender, turn);
@@ -122,9 +122,9 @@ fn course_to<W: Wiring>(wiring: &W, sender: u16, terminus: u16) -> Option<Course
 
 // The head that leads from the sender to the terminus, or none where the way is too long for a route.
 fn head_to<W: Wiring>(wiring: &W, sender: u16, terminus: u16, mode: Mode) -> Option<Head>
-    requires sender { sender < (shape wiring.now).cards }
-    requires terminus { terminus < (shape wiring.now).cards }
-    ensures { HeadTo (shape wiring.now) sender terminus mode (head_in result) }
+    requires sender { sender < (W.shape wiring.now).cards }
+    requires terminus { terminus < (W.shape wiring.now).cards }
+    ensures { HeadTo (W.shape wiring.now) sender terminus mode (head_in result) }
 {
     let course = course_to(wiring, sender, terminus)?;
     let route = course.route()?;
@@ -144,8 +144,8 @@ fn mode_for(first: u16, others: &[u16]) -> Mode
 
 // The head of a packet from the sender to these cards. An order has no other answer.
 pub fn order<W: Wiring>(wiring: &W, sender: u16, cards: &[u16]) -> Result<Head, OrderFault>
-    ensures answer { Ordered (shape wiring.now) sender cards.now (head_told result) }
-    ensures only { (q : Result ℕ OrderFault) → Ordered (shape wiring.now) sender cards.now q → q ≡ head_told result }
+    ensures answer { Ordered (W.shape wiring.now) sender cards.now (head_told result) }
+    ensures only { (q : Result ℕ OrderFault) → Ordered (W.shape wiring.now) sender cards.now q → q ≡ head_told result }
 {
     let n = wiring.cards();
     if sender >= n || !all_below(cards, n) {

@@ -8,7 +8,7 @@ use wiring::Wiring;
 
 // Whether the subtree of `top` has the card. Parents have lower numbers, so the way up ends at `top` or passes it.
 pub fn stands_over<W: Wiring>(wiring: &W, top: u16, card: u16) -> bool
-    ensures { result ≡ covers (shape wiring.now) top card }
+    ensures { result ≡ covers (W.shape wiring.now) top card }
 {
     let mut at = card;
     while at > top {
@@ -22,7 +22,7 @@ pub fn stands_over<W: Wiring>(wiring: &W, top: u16, card: u16) -> bool
 
 // How many cards the subtree of this card has, itself counted.
 pub fn subtree_size<W: Wiring>(wiring: &W, card: u16) -> u16
-    ensures { result ≡ subtree_size (shape wiring.now) card }
+    ensures { result ≡ subtree_size (W.shape wiring.now) card }
 {
     let mut size = 0;
     for other in 0..wiring.cards() {
@@ -35,7 +35,7 @@ pub fn subtree_size<W: Wiring>(wiring: &W, card: u16) -> u16
 
 // How many cards a packet of this mode and terminus reaches.
 pub fn cards_reached<W: Wiring>(wiring: &W, mode: Mode, terminus: u16) -> u16
-    ensures { result ≡ reach (shape wiring.now) mode terminus }
+    ensures { result ≡ reach (W.shape wiring.now) mode terminus }
 {
     match mode {
         Mode::Target => 1,
@@ -45,7 +45,7 @@ pub fn cards_reached<W: Wiring>(wiring: &W, mode: Mode, terminus: u16) -> u16
 
 // The stations that each word of a packet passes on this walk.
 pub fn hops_a_word<W: Wiring>(wiring: &W, mode: Mode, walk: &Walk) -> u32
-    ensures { result ≡ hops_a_word (shape wiring.now) mode walk.now }
+    ensures { result ≡ hops_a_word (W.shape wiring.now) mode walk.now }
 {
     let reached = cards_reached(wiring, mode, walk.terminus);
     u32::from(walk.ups) + 1 + u32::from(walk.descents) + u32::from(reached)
@@ -53,7 +53,7 @@ pub fn hops_a_word<W: Wiring>(wiring: &W, mode: Mode, walk: &Walk) -> u32
 
 // The path hops of a packet of so many words on this walk.
 pub fn path_hops<W: Wiring>(wiring: &W, mode: Mode, walk: &Walk, words: u16) -> u64
-    ensures { result ≡ path_hops (shape wiring.now) mode walk.now words }
+    ensures { result ≡ path_hops (W.shape wiring.now) mode walk.now words }
 {
     u64::from(words) * u64::from(hops_a_word(wiring, mode, walk))
 }

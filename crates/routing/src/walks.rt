@@ -18,7 +18,7 @@ pub struct Walk {
 
 // The card so many links above this one.
 fn climbed<W: Wiring>(wiring: &W, card: u16, ups: u16) -> Option<u16>
-    ensures { result ≡ climb (shape wiring.now) ups card }
+    ensures { result ≡ climb (W.shape wiring.now) ups card }
 {
     let mut at = card;
     let mut left = ups;
@@ -32,7 +32,7 @@ fn climbed<W: Wiring>(wiring: &W, card: u16, ups: u16) -> Option<u16>
 
 // The card that is reached from this one by these sides.
 fn descended<W: Wiring>(wiring: &W, card: u16, sides: Sides) -> Result<u16, RouteFault>
-    ensures { result ≡ descend (shape wiring.now) (sides_in sides) card }
+    ensures { result ≡ descend (W.shape wiring.now) (sides_in sides) card }
 {
     let mut at = card;
     let mut left = sides;
@@ -49,7 +49,7 @@ fn descended<W: Wiring>(wiring: &W, card: u16, sides: Sides) -> Result<u16, Rout
 
 // Where the route leads from this card, or why it leads nowhere.
 pub fn walk_route<W: Wiring>(wiring: &W, card: u16, route: Route) -> Result<Walk, RouteFault>
-    ensures { result ≡ walk_of (shape wiring.now) card route.bits }
+    ensures { result ≡ walk_of (W.shape wiring.now) card route.bits }
 {
     let Some(course) = route.course() else {
         return Err(RouteFault::EndsGoingUp { card });

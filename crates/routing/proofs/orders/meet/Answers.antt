@@ -11,15 +11,15 @@ loop-x-preserved-then-x-y g c =
     let s = g.W.Wiring.shape c.args.wiring.now in
     let L = g.met.W.Wiring.lawful c.args.wiring.now in
     let (i, j, k) = c.loop-x.invariant in
-    let p = c.parent-of-x.result in
-    let e = c.parent-of-x.ensures in
+    let p = c.parent_of-x.result in
+    let e = c.parent_of-x.ensures in
     let b = (L.below c.loop-x.x p.0 p.1 e).0 in
     (omega arith, j, λ u. meet_up s L c.loop-x.x c.loop-x.y p.0 u p.1 c.if-x-y.true e ∙ k u)
 
 pub loop-x-smaller-then-x-y : goal.loop-x-smaller-then-x-y
 loop-x-smaller-then-x-y g c =
     let L = g.met.W.Wiring.lawful c.args.wiring.now in
-    let b = (L.below c.loop-x.x c.parent-of-x.result.0 c.parent-of-x.result.1 c.parent-of-x.ensures).0 in
+    let b = (L.below c.loop-x.x c.parent_of-x.result.0 c.parent_of-x.result.1 c.parent_of-x.ensures).0 in
     omega arith
 
 pub loop-x-preserved : goal.loop-x-preserved
@@ -27,8 +27,8 @@ loop-x-preserved g c =
     let s = g.W.Wiring.shape c.args.wiring.now in
     let L = g.met.W.Wiring.lawful c.args.wiring.now in
     let (i, j, k) = c.loop-x.invariant in
-    let p = c.parent-of-y.result in
-    let e = c.parent-of-y.ensures in
+    let p = c.parent_of-y.result in
+    let e = c.parent_of-y.ensures in
     let n = c.loop-x-test.true in
     let b = (L.below c.loop-x.y p.0 p.1 e).0 in
     let l : c.loop-x.x < c.loop-x.y = omega arith in
@@ -37,7 +37,7 @@ loop-x-preserved g c =
 pub loop-x-smaller : goal.loop-x-smaller
 loop-x-smaller g c =
     let L = g.met.W.Wiring.lawful c.args.wiring.now in
-    let b = (L.below c.loop-x.y c.parent-of-y.result.0 c.parent-of-y.result.1 c.parent-of-y.ensures).0 in
+    let b = (L.below c.loop-x.y c.parent_of-y.result.0 c.parent_of-y.result.1 c.parent_of-y.ensures).0 in
     omega arith
 
 pub returns : goal.returns

@@ -2,9 +2,9 @@ use Rattle.std.proofs.Common.{sym, ◌∙◌, arith}
 use Rattle.routing.proofs.Subtree.{covers_none, covers_other, covers_end}
 use Rattle.routing.proofs.subtrees.stands_over.Goals as goal
 
-pub returns-in-default : goal.returns-in-default
-returns-in-default g c =
-    covers_none (g.W.Wiring.shape c.args.wiring.now) (g.met.W.Wiring.lawful c.args.wiring.now) c.args.top c.loop-at.at c.loop-at-test.true c.in-default.ensures ∙
+pub returns-in_default : goal.returns-in_default
+returns-in_default g c =
+    covers_none (g.W.Wiring.shape c.args.wiring.now) (g.met.W.Wiring.lawful c.args.wiring.now) c.args.top c.loop-at.at c.loop-at-test.true c.in_default.ensures ∙
     sym c.loop-at.invariant
 
 pub loop-at-smaller : goal.loop-at-smaller

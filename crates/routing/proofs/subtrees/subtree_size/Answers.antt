@@ -1,7 +1,7 @@
 use Rattle.std.proofs.Common.{◌≡◌, ℕ, suc, ◌+◌, Bool, true, false, cond, sym, refl, ap, ◌∙◌, add-one, arith}
 use Rattle.routing.specs.Subtrees.{count_below, subtree_size, covers}
 use Rattle.routing.proofs.subtrees.subtree_size.Goals as goal
-use Rattle.routing.proofs.subtrees.subtree_size.Goals.{then-stands-over, else-stands-over}
+use Rattle.routing.proofs.subtrees.subtree_size.Goals.{then-stands_over, else-stands_over}
 
 one_more : (n : ℕ) (f : ℕ → Bool) (b : Bool) → f n ≡ b → count_below (n + 1) f ≡ count_below n f + cond b 1 0
 unfolding count_below
@@ -15,12 +15,12 @@ pub loop-other-preserved : goal.loop-other-preserved
 loop-other-preserved g c =
     let f = covers (g.W.Wiring.shape c.args.wiring.now) c.args.card in
     let (i, j) = c.loop-other.invariant in
-    elim c.if-stands-over.branch [
-      | then-stands-over w ↦
-          let m = one_more c.loop-other.other f true (sym c.stands-over.ensures ∙ w.if-stands-over.true) in
+    elim c.if-stands_over.branch [
+      | then-stands_over w ↦
+          let m = one_more c.loop-other.other f true (sym c.stands_over.ensures ∙ w.if-stands_over.true) in
           (w.size-is ∙ omega arith, omega (arith, w.size-is))
-      | else-stands-over w ↦
-          let m = one_more c.loop-other.other f false (sym c.stands-over.ensures ∙ w.if-stands-over.false) in
+      | else-stands_over w ↦
+          let m = one_more c.loop-other.other f false (sym c.stands_over.ensures ∙ w.if-stands_over.false) in
           (w.size-is ∙ omega arith, omega (arith, w.size-is))
     ]
 

@@ -6,10 +6,10 @@ use Rattle.routing.proofs.walks.descended.Goals as goal
 pub loop-split-init : goal.loop-split-init
 loop-split-init g c = refl
 
-pub returns-in-default-daughter : goal.returns-in-default-daughter
-returns-in-default-daughter g c =
+pub returns-in_default-daughter : goal.returns-in_default-daughter
+returns-in_default-daughter g c =
     descend_lacks (g.W.Wiring.shape c.args.wiring.now) (sides_in c.loop-split.left) (sides_in c.in-Some.split.1) c.in-Some.split.0 c.loop-split.at
-    c.in-Some.ensures c.in-default-daughter.ensures ∙
+    c.in-Some.ensures c.in_default-daughter.ensures ∙
     sym c.loop-split.invariant
 
 pub loop-split-preserved : goal.loop-split-preserved
@@ -23,4 +23,4 @@ loop-split-smaller g c = split_less (sides_in c.loop-split.left) (sides_in c.in-
 
 pub returns : goal.returns
 returns g c =
-    descend_end (g.W.Wiring.shape c.args.wiring.now) (sides_in c.loop-split.left) c.loop-split.at c.in-default.ensures ∙ sym c.loop-split.invariant
+    descend_end (g.W.Wiring.shape c.args.wiring.now) (sides_in c.loop-split.left) c.loop-split.at c.in_default.ensures ∙ sym c.loop-split.invariant
