@@ -11,7 +11,7 @@ use wiring::Wiring;
 
 // The plan of the order that a line states: the sender, then the cards.
 pub fn answer_order<W: Wiring>(heap: Global, wiring: &W, line: &[u8]) -> Result<Plan, PlanFault>
-    ensures { OrderAnswered (shape wiring.now) line.now result }
+    ensures { OrderAnswered (W.shape wiring.now) line.now result }
 {
     let mut fields = Fields::new(line);
     let Some(sender) = fields.decimal() else {

@@ -18,7 +18,7 @@ pub struct Plan {
 
 // The plan of an order from a sender to these cards.
 pub fn plan_order<W: Wiring>(wiring: &W, sender: u16, cards: &[u16]) -> Result<Plan, OrderFault>
-    ensures { Planned (shape wiring.now) sender cards.now result }
+    ensures { Planned (W.shape wiring.now) sender cards.now result }
 {
     let head = order(wiring, sender, cards)?;
     let walk = match walk_route(wiring, sender, head.route) {

@@ -17,7 +17,7 @@ loop-field-preserved g c =
     let vs = vec_items c.loop-field.values in
     c.loop-field.invariant ∙
     (all_more f vs c.in-Some-read.value c.in-Some.field.now fs c.in-Some.ensures.value c.in-Some-read.ensures ∙
-    (ap (λ (xs : List g.row.T.Denot). behind xs (read_all f (rest_of fs))) (sym c.in-ok-push.ensures.items) ∙
+    (ap (λ (xs : List g.row.T.Denot). behind xs (read_all f (rest_of fs))) (sym c.in_ok-push.ensures.items) ∙
     ap (λ (gs : List (List ℕ)). behind (vec_items c.push.new.self) (read_all f gs)) (sym c.in-Some.ensures.rest)))
 
 pub loop-field-smaller : goal.loop-field-smaller
@@ -26,11 +26,11 @@ loop-field-smaller g c =
     let e = ap length c.in-Some.ensures.rest in
     omega arith
 
-pub returns-in-default-read : goal.returns-in-default-read
-returns-in-default-read g c =
-    all_bad g.T.Spelled.spells (vec_items c.loop-field.values) c.in-Some.field.now (fields_left c.loop-field.fields) c.in-Some.ensures.value c.in-default-read.ensures ∙
+pub returns-in_default-read : goal.returns-in_default-read
+returns-in_default-read g c =
+    all_bad g.T.Spelled.spells (vec_items c.loop-field.values) c.in-Some.field.now (fields_left c.loop-field.fields) c.in-Some.ensures.value c.in_default-read.ensures ∙
     sym c.loop-field.invariant
 
 pub returns : goal.returns
 returns g c =
-    all_end g.T.Spelled.spells (vec_items c.loop-field.values) (fields_left c.loop-field.fields) c.in-default.ensures.value ∙ sym c.loop-field.invariant
+    all_end g.T.Spelled.spells (vec_items c.loop-field.values) (fields_left c.loop-field.fields) c.in_default.ensures.value ∙ sym c.loop-field.invariant
