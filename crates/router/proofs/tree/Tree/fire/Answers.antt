@@ -8,7 +8,7 @@ use Rattle.router.proofs.tree.Tree.fire.Goals as goal
 pub returns : goal.returns
 returns g c =
     let t = c.args.self.now in
-    let f = c.fire-step.ensures in
+    let f = c.fire_step.ensures in
     let L = g.met.W.Wiring.lawful t.wiring in
     let z = same_tree (ap g.W.Wiring.shape f.same.0) (ap g.P.Policy.verdict f.same.1) f.next (f.owed ∙ ap (lowered t.owed) f.answer) in
     record {

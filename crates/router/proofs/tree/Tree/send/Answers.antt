@@ -8,7 +8,7 @@ pub returns : goal.returns
 returns g c =
     let t = c.args.self.now in
     let p = c.args.packet.now in
-    let f = c.send-step.ensures in
+    let f = c.send_step.ensures in
     let L = g.met.W.Wiring.lawful t.wiring in
     let z = same_tree (ap g.W.Wiring.shape f.same.0) (ap g.P.Policy.verdict f.same.1) f.next f.owed in
     record {

@@ -7,7 +7,7 @@ use Rattle.router.proofs.tree.Tree.take.Goals as goal
 pub returns : goal.returns
 returns g c =
     let t = c.args.self.now in
-    let f = c.take-step.ensures in
+    let f = c.take_step.ensures in
     let L = g.met.W.Wiring.lawful t.wiring in
     let z = same_tree (ap g.W.Wiring.shape f.same.0) (ap g.P.Policy.verdict f.same.1) f.next f.owed in
     record {
