@@ -1,5 +1,5 @@
 -- The first rule that covers decides.
-use Rattle.std.proofs.Common.{◌≡◌, ℕ, zero, suc, ◌<◌, Bool, true, false, List, [], ◌∷◌, Some, refl, ◌∙◌, arith}
+use Rattle.std.proofs.Common.{◌≡◌, ℕ, zero, suc, Bool, true, false, List, [], ◌∷◌, Some, refl, ◌∙◌, arith}
 use Rattle.std.specs.List.{slice_get}
 use Rattle.licence.specs.declared.verdict.Verdict.{Verdict}
 use Rattle.licence.specs.declared.verdict.Verdict.TheVariants.{Refuse}

@@ -21,12 +21,11 @@ use Rattle.network.specs.Laws.{Delivery, EveryCall, Hops, Laws, ThreeLaws, words
 use Rattle.network.specs.Owed.{hops_owed}
 use Rattle.network.specs.Runs.{Call, Run, fire, next, onward, owed, run, run_from, send, start, take}
 use Rattle.network.specs.Sums.{count, same_words, sum_over}
-use Rattle.network.proofs.Arrivals.{arrivals}
 use Rattle.network.proofs.Basics.{and_left, and_right, sum_to_same}
 use Rattle.network.proofs.Channels.{Rooted, rooted}
 use Rattle.network.proofs.Exact.{SentFrom, exact_law, path_law, run_sent}
 use Rattle.network.proofs.Flow.{load}
-use Rattle.network.proofs.History.{Event, History, as_arrived, brought, brought_by, ends, hops, is_packet, last_tail, one, past, whole_as, with_class, words}
+use Rattle.network.proofs.History.{Event, History, as_arrived, brought, brought_by, ends, is_packet, last_tail, one, past, whole_as, with_class, words}
 use Rattle.network.proofs.UnderWay.{along, mark, rest}
 use Rattle.network.proofs.OwedLoad.{owed_load}
 use Rattle.network.proofs.Cutting.{count_all, joined_all, no_tail, parcels, whole_all}

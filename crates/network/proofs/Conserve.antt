@@ -1,14 +1,12 @@
 -- A word that passes a station takes that station's share from the load, and nothing else.
 use Rattle.std.proofs.Common.{◌≡◌, ℕ, suc, ◌+◌, ◌*◌, ◌<◌, ◌≤◌, ◌≢◌, List, [], ◌∷◌, ◌++◌, refl, arith}
 use Rattle.wiring.specs.Shapes.{Shape}
-use Rattle.wiring.specs.Wireds.{later}
-use Rattle.station.specs.Holds.{after}
 use Rattle.station.specs.Plans.{Verdicts}
 use Rattle.station.specs.declared.channel.Channel.{Channel}
 use Rattle.network.specs.Nodes.{Node, card_of, number, target}
 use Rattle.network.specs.Sums.{sum_channels, sum_over}
 use Rattle.network.proofs.Basics.{put_other, put_same, sum_channels-at, waiting_push}
-use Rattle.network.proofs.Channels.{Rooted, channel_discrete, same}
+use Rattle.network.proofs.Channels.{Rooted, channel_discrete}
 use Rattle.network.proofs.Flow.{Flow, load, pass, push_all}
 use Rattle.network.proofs.UnderWay.{along, leaves, moved, next, outs_of, put, rest, waiting, weight}
 use Rattle.network.proofs.Outputs.{All, all_map₂}

@@ -1,5 +1,5 @@
 -- The worked packets and calls, by computing.
-use Rattle.std.proofs.Common.{◌≡◌, ℕ, refl}
+use Rattle.std.proofs.Common.{refl}
 use Rattle.packet.specs.Packets.{is_head_word, is_tail_word, later_fault, kind_fault, reserved_fault}
 use Rattle.packet.specs.Routes.{bits_from, route_bits, has_one, ups_of, after_turn, before_stop, read_bits, read_route, top_bit, shifted, advance, stops}
 use Rattle.packet.specs.Heads.{floods}

@@ -12,7 +12,6 @@ use Rattle.licence.specs.declared.verdict.Verdict.TheVariants.{Class, Refuse}
 use Rattle.station.specs.Plans.{Verdicts, accepted}
 use Rattle.station.specs.declared.channel.Channel.{Channel}
 use Rattle.station.specs.declared.channel.Channel.TheVariants.{Queued}
-use Rattle.network.specs.Fires.{passed}
 use Rattle.network.specs.Nodes.{Node, down, number, up}
 use Rattle.network.specs.Sends.{Way, send_way}
 use Rattle.network.specs.Sums.{same_words, sum_over}

@@ -19,8 +19,7 @@ use Rattle.network.specs.Fires.{Fired, and_then, carried, carry, clear, consumed
 use Rattle.network.specs.Nodes.{Node, card_of, input_of, number, station_of, target}
 use Rattle.network.specs.Owed.{hold_of, reads}
 use Rattle.network.proofs.Basics.{and_left, and_right, not_true, put_other, put_same}
-use Rattle.network.proofs.Channels.{Rooted, channel_discrete, node_discrete, same}
-use Rattle.network.proofs.Conserve.{at}
+use Rattle.network.proofs.Channels.{Rooted, channel_discrete, node_discrete}
 use Rattle.network.proofs.Delivery.{Brings, delivered}
 use Rattle.network.proofs.Flow.{Flow, admits, all_clear, fired, fired_by, fits, holder, is_empty, pass, push_all, refusal, refusal_at, refusal_by, shape}
 use Rattle.network.proofs.Inputs.{input_same, same_input_not, same_input_self}
@@ -29,7 +28,6 @@ use Rattle.network.proofs.StationParts.{delivers_by, hold_after, leaves_by, outs
 use Rattle.network.proofs.Phases.{delivers-phase, hold_phase, leaves-phase, outs-phase, phase}
 use Rattle.network.proofs.Planned.{kept_words, links_of, merge_by_lem, merge-head, merge-later, merge_by, plan_after, plan-kept, plan_links, plan_word}
 use Rattle.network.proofs.Preserve.{all_send, holder_tail, next_tail, passed-at, passed_out, source_at, source_out}
-use Rattle.network.proofs.Progress.{front}
 use Rattle.network.proofs.HistoryLaws.{Good, admitted, outs_of_distinct}
 use Rattle.network.proofs.Stands.{after_map, delivers-map, held_for, held_for-map, leaves_map, map_hold, map_option, outs-map, phase_for, stands, stands_by}
 use Rattle.network.proofs.Table.{boxed_hold, boxed_inbox, boxed-length, boxed-reads, inbox_at, pour, pour_hold, pour_inbox, pour-length, pour_other, pour-rest, stand, stand_inbox, stand-length, stand_other, stand-reads, stand_same, write_all, writes, writes_keep}

@@ -30,7 +30,7 @@ use Rattle.network.proofs.Preserve.{all_send, chan_out, passed-at, passed_out}
 use Rattle.network.proofs.Outputs.{outs_step, All, all_map}
 use Rattle.network.proofs.Simulate.{History-of, fire_beside, follows}
 use Rattle.network.proofs.Traced.{Part, Traced, among_last, packet_traced, part_on, step_elem, traced_append, traced_more}
-use Rattle.network.proofs.UnderWay.{leaves, moved, next, outs_of, rest}
+use Rattle.network.proofs.UnderWay.{leaves, moved, outs_of, rest}
 use Rattle.network.proofs.Writes.{waiting_is}
 
 -- a word, by its place among the words of its packet

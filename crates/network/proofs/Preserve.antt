@@ -2,17 +2,15 @@
 use Rattle.std.proofs.Common.{◌≡◌, ℕ, ◌<◌, Bool, true, false, cond, ◌≢◌, ◌⊎◌, List, [], ◌∷◌, ◌++◌, Some, None, Option, sym, refl, ap, ◌∙◌, subst, inl, inr, arith}
 use Rattle.packet.specs.Packets.{is_tail_word}
 use Rattle.wiring.specs.Shapes.{Shape}
-use Rattle.licence.specs.Verdicts.{known}
 use Rattle.station.specs.Plans.{Verdicts}
 use Rattle.station.specs.declared.channel.Channel.{Channel}
 use Rattle.network.specs.Nodes.{Node, number, target}
 use Rattle.network.proofs.Basics.{and_both, and_left, and_right, put_other, put_same, rest_push, shape-append}
 use Rattle.network.proofs.Channels.{Rooted, channel_discrete, node_discrete}
-use Rattle.network.proofs.Conserve.{Distinct, SendsInto, at}
+use Rattle.network.proofs.Conserve.{Distinct, SendsInto}
 use Rattle.network.proofs.Flow.{Flow, fits, holder, is_empty, pass, shape}
 use Rattle.network.proofs.Invariant.{Inv, all_by, all_elem, elem, elem_other, feeder, push_all_in, push_all_out, sending, sending_from}
 use Rattle.network.proofs.UnderWay.{leaves, moved, next, outs_of, rest}
-use Rattle.network.proofs.Progress.{front}
 use Rattle.network.proofs.Feeders.{feeder-above, moved-fits, moved-next, outs_of_fed, outs_of_more}
 use Rattle.network.proofs.Outputs.{All, all_map}
 use Rattle.network.proofs.Ranks.{Out, outs_of_lower, rank, target-known}

@@ -6,7 +6,6 @@ use Rattle.refusal.specs.declared.drive.FireFault.TheVariants.{InboxFull}
 use Rattle.packet.specs.Routes.{side_of, top_bit}
 use Rattle.packet.specs.declared.sides.Side.{Side}
 use Rattle.wiring.specs.Shapes.{Shape}
-use Rattle.licence.specs.Verdicts.{known}
 use Rattle.station.specs.Plans.{Verdicts}
 use Rattle.station.specs.declared.channel.Channel.{Channel}
 use Rattle.station.specs.declared.channel.Channel.TheVariants.{DownLink, Queued, TurnLink, UpLink}
@@ -14,7 +13,6 @@ use Rattle.network.specs.Nodes.{Node, above, card_or_zero, down, number, outs, t
 use Rattle.network.specs.Paths.{Step, climbs, descends, spreads, turns}
 use Rattle.network.proofs.Basics.{and_left}
 use Rattle.network.proofs.Channels.{Rooted, channel_discrete}
-use Rattle.network.proofs.Conserve.{at}
 use Rattle.network.proofs.Feeders.{outs_of_more}
 use Rattle.network.proofs.Flow.{Flow, admits, all_clear, fits, is_empty, refusal, refusal_at, refusal_by, shape}
 use Rattle.network.proofs.Invariant.{Inv, all_elem, elem, elem_more, fall_from, feeder, feeder_by, sending, sending_from}

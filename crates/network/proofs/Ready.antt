@@ -16,7 +16,7 @@ use Rattle.network.specs.Fires.{Fired}
 use Rattle.network.specs.Laws.{Goes, Ready}
 use Rattle.network.specs.Nodes.{above, Node, card_of, card_or_zero, down, down_link_into, input_of, node_of, number, station_of, target, up, up_link_from}
 use Rattle.network.specs.Owed.{hops_owed}
-use Rattle.network.specs.Paths.{Step, climbs, descends, goes, spreads, turns}
+use Rattle.network.specs.Paths.{Step, climbs, descends, spreads, turns}
 use Rattle.network.specs.Runs.{Run}
 use Rattle.network.proofs.Basics.{put_other}
 use Rattle.network.proofs.Channels.{Rooted, channel_discrete}

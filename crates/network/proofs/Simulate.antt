@@ -30,7 +30,7 @@ use Rattle.network.proofs.Flow.{Flow, fired, fired_by, pass, refusal}
 use Rattle.network.proofs.History.{Event, History, happens, is_granted, is_none, moving, none_yet, past, queued, queueing, resting, sendable, step_fire, step_send, taking, took_by}
 use Rattle.network.proofs.Inputs.{input_known}
 use Rattle.network.proofs.Match.{Beside, Matches, beside}
-use Rattle.network.proofs.UnderWay.{next, put}
+use Rattle.network.proofs.UnderWay.{put}
 use Rattle.network.proofs.HistoryLaws.{Good, run_good}
 use Rattle.network.proofs.Sendings.{sends_is}
 use Rattle.network.proofs.Stands.{map_hold, stands, stands_by}

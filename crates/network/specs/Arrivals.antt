@@ -1,5 +1,5 @@
 -- What a sent packet calls for, by the wiring, its route and the policy alone: its path hops, the cards that it reaches, its arrivals.
-use Rattle.std.specs.Prelude.{ℕ, ◌+◌, ◌*◌, Bool, true, false, cond, not, ◌&&◌, List, [], ◌∷◌, ◌++◌, length, Ok, Err, Result, ◌==◌}
+use Rattle.std.specs.Prelude.{ℕ, Bool, true, false, not, ◌&&◌, List, [], ◌∷◌, length, Ok, Err, Result, ◌==◌}
 use Rattle.refusal.specs.declared.send.RouteFault.{RouteFault}
 use Rattle.packet.specs.declared.heads.Mode.{Mode}
 use Rattle.packet.specs.declared.heads.Mode.TheVariants.{Target, Flood}

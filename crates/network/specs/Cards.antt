@@ -1,5 +1,5 @@
 -- The tree as it stands: for each card its queue, its inbox, its links and its two stations.
-use Rattle.std.specs.Prelude.{ℕ, Bool, true, false, List, [], ◌∷◌, ◌++◌, replicate, Some, None, Option, slice_index_or, slice_set}
+use Rattle.std.specs.Prelude.{ℕ, List, [], ◌∷◌, replicate, Some, None, Option, slice_index_or, slice_set}
 use Rattle.wiring.specs.Shapes.{most_cards}
 use Rattle.station.specs.declared.hold.Input.{Input}
 use Rattle.station.specs.declared.hold.Hold.{Hold}

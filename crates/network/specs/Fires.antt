@@ -1,5 +1,5 @@
 -- A fire: merge, then up or down, then all outputs together, or a refusal and the same tree.
-use Rattle.std.specs.Prelude.{ℕ, Bool, true, false, cond, ◌||◌, List, [], ◌∷◌, ◌++◌, length, is_some, Some, None, Ok, Err, Option, Result, nat_le, nat_lt}
+use Rattle.std.specs.Prelude.{ℕ, Bool, false, cond, ◌||◌, [], ◌∷◌, ◌++◌, length, is_some, Some, None, Ok, Err, Option, Result, nat_le, nat_lt}
 use Rattle.refusal.specs.declared.drive.FireFault.{FireFault}
 use Rattle.refusal.specs.declared.drive.FireFault.TheVariants.{NoCard, NoInput, NothingWaits, LinkOccupied, InboxFull}
 use Rattle.wiring.specs.Shapes.{Shape}
@@ -14,7 +14,7 @@ use Rattle.station.specs.declared.channel.Channel.{Channel}
 use Rattle.station.specs.declared.channel.Channel.TheVariants.{Queued, UpLink, TurnLink, DownLink}
 use Rattle.station.specs.Holds.{merge, after}
 use Rattle.station.specs.Plans.{Verdicts, planned, sum_of}
-use Rattle.network.specs.Cards.{Card, State, inbox_room, card_at, on_card, with_queue, with_inbox, with_up_link, with_turn_link, with_down_link, with_up, with_down, oldest, younger}
+use Rattle.network.specs.Cards.{State, inbox_room, card_at, on_card, with_queue, with_inbox, with_up_link, with_turn_link, with_down_link, with_up, with_down, oldest, younger}
 use Rattle.network.specs.Nodes.{node_of, input_of}
 
 pub record Fired : Type 0 where

@@ -1,6 +1,5 @@
 -- The network that a wiring makes: stations, and channels between them.
-use Rattle.std.specs.Prelude.{ℕ, zero, suc, ◌+◌, Bool, true, false, cond, ◌&&◌, List, [], ◌∷◌, ◌++◌, Some, None, Option, ◌==◌}
-use Rattle.packet.specs.declared.sides.Side.{Side}
+use Rattle.std.specs.Prelude.{ℕ, Bool, cond, ◌&&◌, List, [], ◌∷◌, ◌++◌, Some, None, Option, ◌==◌}
 use Rattle.packet.specs.declared.sides.Side.TheVariants.{Left, Right}
 use Rattle.packet.specs.Routes.{side_of, top_bit, stops}
 use Rattle.packet.specs.Heads.{floods}

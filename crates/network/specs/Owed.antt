@@ -1,5 +1,5 @@
 -- Hops owed: the stations that the words in queues and links still have to pass, each copy counted, also one not yet made.
-use Rattle.std.specs.Prelude.{ℕ, zero, suc, ◌+◌, ◌*◌, Bool, true, false, cond, List, [], ◌∷◌, ◌++◌, Some, None, Option}
+use Rattle.std.specs.Prelude.{ℕ, zero, suc, ◌+◌, ◌*◌, Bool, false, cond, List, [], ◌∷◌, Some, None, Option}
 use Rattle.packet.specs.Packets.{is_head_word}
 use Rattle.packet.specs.Routes.{advance}
 use Rattle.wiring.specs.Shapes.{Shape}

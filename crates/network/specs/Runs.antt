@@ -1,5 +1,5 @@
 -- Runs: the calls made on a tree since it was set up, and what they have granted.
-use Rattle.std.specs.Prelude.{◌≡◌, ℕ, zero, suc, ◌+◌, Bool, true, false, cond, List, [], ◌∷◌, ◌++◌, Ok, Err, Result, ◌==◌}
+use Rattle.std.specs.Prelude.{◌≡◌, ℕ, ◌+◌, cond, List, [], ◌∷◌, ◌++◌, Ok, Err, Result, ◌==◌}
 use Rattle.wiring.specs.Shapes.{Shape}
 use Rattle.station.specs.declared.hold.Station.{Station}
 use Rattle.station.specs.declared.hold.Input.{Input}

@@ -1,5 +1,5 @@
 -- A send: what it checks, from the lowest number up, and what it queues.
-use Rattle.std.specs.Prelude.{ℕ, ◌+◌, Bool, true, false, cond, List, [], ◌∷◌, ◌++◌, length, Ok, Err, Result, nat_le, nat_lt}
+use Rattle.std.specs.Prelude.{ℕ, ◌+◌, cond, List, ◌++◌, length, Ok, Err, Result, nat_le, nat_lt}
 use Rattle.refusal.specs.declared.send.RouteFault.{RouteFault}
 use Rattle.refusal.specs.declared.send.PacketFault.{PacketFault}
 use Rattle.refusal.specs.declared.send.PacketFault.TheVariants.{NoSender, Route, QueueFull}

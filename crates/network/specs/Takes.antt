@@ -1,5 +1,5 @@
 -- A take: the oldest word of an inbox.
-use Rattle.std.specs.Prelude.{ℕ, cond, List, Some, None, Ok, Err, Option, Result, nat_lt}
+use Rattle.std.specs.Prelude.{ℕ, cond, Some, None, Ok, Err, Option, Result, nat_lt}
 use Rattle.refusal.specs.declared.drive.TakeFault.{TakeFault}
 use Rattle.refusal.specs.declared.drive.TakeFault.TheVariants.{NoReader, InboxEmpty}
 use Rattle.wiring.specs.Shapes.{Shape}

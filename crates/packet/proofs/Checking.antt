@@ -1,11 +1,11 @@
 -- The check of a packet, word by word.
-use Rattle.std.proofs.Common.{◌≡◌, ℕ, suc, ◌+◌, ◌-◌, ◌<◌, ◌≤◌, Bool, true, false, cond, eqb, List, [], ◌∷◌, length, get_or, take, drop, Some, None, Ok, Err, Option, Result, sym, refl, ap, ◌∙◌, ap₂, arith, le-ltb}
+use Rattle.std.proofs.Common.{◌≡◌, ℕ, ◌+◌, ◌-◌, ◌<◌, ◌≤◌, Bool, true, false, cond, eqb, List, [], ◌∷◌, length, get_or, take, drop, Some, None, Ok, Err, Option, Result, sym, refl, ap, ◌∙◌, ap₂, arith, le-ltb}
 use lib.Seq.{take-length}
 use Rattle.std.proofs.lemmas.Slice.{first_rest}
 use Rattle.refusal.specs.declared.send.PacketFault.{PacketFault}
 use Rattle.refusal.specs.declared.send.PacketFault.TheVariants.{Length, Kinds, Reserved}
 use Rattle.packet.specs.Words.{kind_of}
-use Rattle.packet.specs.Packets.{is_head, right_kind, later_fault, kind_fault, reserved_fault, unless_at, Header, header_of, check_packet, check_parts}
+use Rattle.packet.specs.Packets.{right_kind, later_fault, kind_fault, reserved_fault, unless_at, Header, header_of, check_packet, check_parts}
 
 -- what follows the first word, and the second
 abbrev pub rest : List ℕ → List ℕ

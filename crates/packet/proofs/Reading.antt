@@ -1,8 +1,7 @@
 -- A route read bit by bit: the way up from the highest bit, the stop from the lowest.
-use Rattle.std.proofs.Common.{◌≡◌, ℕ, zero, suc, ◌+◌, ◌-◌, ◌*◌, ◌/◌, ◌%◌, ◌^◌, ◌<◌, ◌≤◌, Bool, true, false, cond, not, ◌||◌, eqb, List, [], ◌∷◌, ◌++◌, map, Some, None, Option, sym, refl, ap, ◌∙◌, ap₂, arith, eq-eqb, ne_eqb}
+use Rattle.std.proofs.Common.{◌≡◌, ℕ, zero, suc, ◌+◌, ◌-◌, ◌*◌, ◌/◌, ◌%◌, ◌^◌, ◌<◌, ◌≤◌, Bool, true, false, cond, not, ◌||◌, eqb, List, [], ◌∷◌, ◌++◌, map, Some, None, Option, sym, refl, ap, ◌∙◌, ap₂, arith, ne_eqb}
 use native.Mathlib.Nat.{two-pow-succ}
 use Rattle.std.proofs.lemmas.Nat.{one_shl}
-use Rattle.packet.specs.Words.{bit}
 use Rattle.packet.specs.Routes.{bits_from, ups_of, after_turn, has_one, before_stop, side_of, stopped, leads_by, read_bits, read_route, route_bits}
 use Rattle.packet.specs.declared.sides.Side.{Side}
 use Rattle.packet.proofs.Bits.{bits_last, has_one_lem}

@@ -1,10 +1,8 @@
 -- A route that reads as a way is the route that is written for it.
-use Rattle.std.proofs.Common.{◌≡◌, ℕ, zero, suc, ◌+◌, ◌*◌, ◌/◌, ◌%◌, ◌^◌, ◌<◌, ◌≤◌, Bool, true, false, cond, not, ◌||◌, eqb, ◌⊎◌, List, [], ◌∷◌, map, length, Some, None, Option, sym, refl, ap, ◌∙◌, ap₂, inl, inr, mod-lt, mod-eq_of_lt, arith, eqb-true}
-use native.Mathlib.Nat.{two-pow-succ, mod-mod}
+use Rattle.std.proofs.Common.{◌≡◌, ℕ, zero, suc, ◌+◌, ◌*◌, ◌/◌, ◌%◌, ◌^◌, ◌<◌, ◌≤◌, Bool, true, false, cond, not, ◌||◌, eqb, ◌⊎◌, List, [], ◌∷◌, map, length, Some, None, Option, sym, refl, ap, ◌∙◌, inl, inr, mod-lt, mod-eq_of_lt, arith, eqb-true}
 use borrow.Author.Tests.{eqb-false}
 use Rattle.std.proofs.lemmas.Nat.{pow_pos}
 use Rattle.packet.specs.declared.sides.Side.{Side}
-use Rattle.packet.specs.declared.sides.Side.TheVariants.{Left, Right}
 use Rattle.packet.specs.Words.{bit}
 use Rattle.packet.specs.Routes.{Leads, leads, leads_by, bits_from, has_one, ups_of, after_turn, before_stop, stopped, side_of, read_bits, down_for, route_for}
 use Rattle.packet.proofs.Bits.{split_top, bits_low, has_one_lem}

@@ -1,5 +1,5 @@
 -- The first word that bears a mark, and where the reader's part ends.
-use Rattle.std.proofs.Common.{◌≡◌, ℕ, zero, suc, ◌+◌, ◌-◌, ◌<◌, ◌≤◌, Bool, true, false, cond, List, [], ◌∷◌, length, get_or, take, drop, Some, None, Ok, Err, Option, sym, refl, ap, ◌∙◌, ap₂, add-one, arith, length-drop, length-take, drop-cons}
+use Rattle.std.proofs.Common.{◌≡◌, ℕ, ◌+◌, ◌-◌, ◌<◌, ◌≤◌, Bool, true, false, cond, List, ◌∷◌, length, get_or, take, drop, Some, None, Ok, Err, Option, sym, ap, ◌∙◌, ap₂, add-one, arith, length-drop, length-take, drop-cons}
 use Rattle.std.proofs.lemmas.List.{drop_all, take_rest}
 use Rattle.refusal.specs.declared.drive.DeliveryFault.TheVariants.{WrongBits}
 use Rattle.packet.specs.declared.arrivals.Mark.{Mark}

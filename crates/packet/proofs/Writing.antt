@@ -1,5 +1,5 @@
 -- A written route: its value, and that it reads back.
-use Rattle.std.proofs.Common.{◌≡◌, ℕ, zero, suc, ◌+◌, ◌-◌, ◌*◌, ◌/◌, ◌%◌, ◌^◌, ◌<◌, ◌≤◌, Bool, true, false, cond, not, eqb, List, [], ◌∷◌, map, length, Some, None, Option, sym, refl, ap, ◌∙◌, ap₂, mod-eq_of_lt, add-mul, arith, pow-add, shl_lt, shl_exact, le-ltb, lt-ltb, eqb-true, le-leb}
+use Rattle.std.proofs.Common.{◌≡◌, ℕ, zero, suc, ◌+◌, ◌-◌, ◌*◌, ◌/◌, ◌%◌, ◌^◌, ◌<◌, ◌≤◌, Bool, true, false, not, eqb, List, [], ◌∷◌, map, length, Some, None, sym, refl, ap, ◌∙◌, ap₂, mod-eq_of_lt, add-mul, arith, pow-add, shl_exact, le-ltb, lt-ltb, eqb-true, le-leb}
 use native.Mathlib.Nat.{two-pow-succ, zero-mod, pow-le-pow_right}
 use borrow.Author.Tests.{eqb-false, lt-leb}
 use lib.Pow.{high, low, shl-shr}
@@ -7,7 +7,7 @@ use Rattle.std.proofs.lemmas.Nat.{pow_pos, one_shl}
 use Rattle.packet.specs.declared.sides.Side.{Side}
 use Rattle.packet.specs.declared.sides.Side.TheVariants.{Left, Right}
 use Rattle.packet.specs.Words.{bit}
-use Rattle.packet.specs.Routes.{Leads, leads, leads_by, bits_from, has_one, ups_of, after_turn, before_stop, stopped, side_of, read_bits, read_route, route_bits, down_for, route_for, write_route}
+use Rattle.packet.specs.Routes.{leads, bits_from, has_one, ups_of, after_turn, before_stop, stopped, side_of, read_bits, read_route, route_bits, down_for, route_for, write_route}
 use Rattle.packet.specs.Courses.{sides_before, split_sides}
 use Rattle.packet.proofs.Bits.{split_top, bits_same, bits_low, has_one_lem}
 use Rattle.packet.proofs.Reading.{masked}

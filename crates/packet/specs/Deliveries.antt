@@ -1,5 +1,5 @@
 -- Delivered words, cut into packets again.
-use Rattle.std.specs.Prelude.{ℕ, zero, suc, ◌+◌, ◌-◌, Bool, true, false, cond, List, [], ◌∷◌, length, take, drop, Some, None, Ok, Err, Option, Result, slice_index}
+use Rattle.std.specs.Prelude.{ℕ, ◌+◌, ◌-◌, Bool, true, false, cond, List, [], ◌∷◌, length, take, drop, Some, None, Ok, Err, Option, Result, slice_index}
 use Rattle.packet.specs.declared.words.Kind.{Kind}
 use Rattle.packet.specs.declared.words.Kind.TheVariants.{Body, Tail, Head, Unused}
 use Rattle.refusal.specs.declared.drive.DeliveryFault.{DeliveryFault}

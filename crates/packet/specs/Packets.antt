@@ -1,5 +1,5 @@
 -- What a packet must be: 2 to 64 words, a head, then bodies, a tail as its last word, reserved bits zero.
-use Rattle.std.specs.Prelude.{ℕ, zero, suc, ◌+◌, Bool, true, false, cond, not, List, [], ◌∷◌, length, Some, None, Ok, Err, Option, Result, ◌==◌, nat_lt}
+use Rattle.std.specs.Prelude.{ℕ, ◌+◌, Bool, true, false, cond, not, List, [], ◌∷◌, length, Some, None, Ok, Err, Option, Result, ◌==◌, nat_lt}
 use Rattle.packet.specs.declared.words.Kind.{Kind}
 use Rattle.packet.specs.declared.words.Kind.TheVariants.{Body, Tail, Head, Unused}
 use Rattle.packet.specs.declared.heads.Mode.{Mode}

@@ -1,8 +1,6 @@
 -- What a line of a planning deck is answered.
-use Rattle.std.specs.Prelude.{◌≡◌, ℕ, List, Some, None, Ok, Err, Option, Result}
+use Rattle.std.specs.Prelude.{ℕ, List, Some, None, Ok, Err, Option, Result}
 use Rattle.refusal.specs.declared.answer.Refusal.{Refusal}
-use Rattle.refusal.specs.declared.build.WiringFault.{WiringFault}
-use Rattle.refusal.specs.declared.order.OrderFault.{OrderFault}
 use Rattle.refusal.specs.Numbers.{numbered}
 use Rattle.refusal.specs.Refusals.{wiring_refusal, order_refusal}
 use Rattle.wiring.specs.Shapes.{Shape}
@@ -10,7 +8,7 @@ use Rattle.routing.specs.Orders.{Ordered}
 use Rattle.planner.specs.declared.plans.Plan.{Plan}
 use Rattle.planner.specs.declared.faults.PlanFault.{PlanFault}
 use Rattle.planner.specs.declared.faults.PlanFault.TheVariants.{NotUnderstood, Wiring, Order, Memory}
-use Rattle.planner.specs.Plans.{Plans, Planned}
+use Rattle.planner.specs.Plans.{Plans}
 use Rattle.planner.specs.Lines.{Ask, order_line}
 
 -- the number of a refusal; want of memory has none

@@ -1,5 +1,5 @@
 -- The wiring that a line states, and what the line is answered.
-use Rattle.std.specs.Prelude.{◌≡◌, ℕ, List, Some, None, Ok, Err, Option, Result}
+use Rattle.std.specs.Prelude.{◌≡◌, Some, None, Ok, Err, Option, Result}
 use Rattle.wiring.specs.Shapes.{Shape, full_shape}
 use Rattle.wiring.specs.Fulls.{full_tree}
 use Rattle.wiring.specs.Tables.{Wired}

@@ -1,5 +1,5 @@
 -- What a line of a planning deck says.
-use Rattle.std.specs.Prelude.{◌≡◌, ℕ, Bool, cond, List, [], ◌∷◌, ◌++◌, Some, None, codes, Option, nat_le}
+use Rattle.std.specs.Prelude.{ℕ, cond, List, [], ◌∷◌, Some, None, codes, Option, nat_le}
 use Rattle.std.specs.Str.{bytes_eq}
 use Rattle.text.specs.AndThen.{and_then}
 use Rattle.text.specs.Fields.{fields_of}

@@ -1,5 +1,5 @@
 -- The sentence of every refusal.
-use Rattle.std.specs.Prelude.{ℕ, List, ◌++◌, Some, None, codes, decimal, Option}
+use Rattle.std.specs.Prelude.{ℕ, List, ◌++◌, codes}
 use Rattle.refusal.specs.declared.answer.Refusal.{Refusal}
 use Rattle.refusal.specs.declared.build.WiringFault.{WiringFault}
 use Rattle.refusal.specs.declared.build.WiringFault.TheVariants.{Size, Broken}

@@ -1,5 +1,5 @@
 -- Each call leads on, and keeps the number of hops right.
-use Rattle.std.proofs.Common.{◌≡◌, ℕ, ◌+◌, ◌-◌, ◌<◌, ◌≤◌, min, List, [], ◌∷◌, ◌++◌, length, Ok, Err, Result, sym, refl, ap, ◌∙◌, subst, arith}
+use Rattle.std.proofs.Common.{◌≡◌, ℕ, ◌+◌, ◌≤◌, min, List, [], ◌∷◌, ◌++◌, length, Ok, Err, Result, sym, refl, ap, ◌∙◌, subst, arith}
 use Rattle.refusal.specs.declared.drive.FireFault.{FireFault}
 use Rattle.refusal.specs.declared.send.PacketFault.{PacketFault}
 use Rattle.wiring.specs.Shapes.{Shape, Lawful}
@@ -12,9 +12,8 @@ use Rattle.network.specs.Fires.{fire_step}
 use Rattle.network.specs.Takes.{take_step}
 use Rattle.network.specs.Sums.{sum_over}
 use Rattle.network.specs.Owed.{hops_owed}
-use Rattle.network.specs.Arrivals.{hops_of}
-use Rattle.network.specs.Runs.{Call, send, fire, take, owed, run, run_from, next, Reached}
-use Rattle.network.specs.Trees.{Counts, Bounded, most_owed}
+use Rattle.network.specs.Runs.{Call, send, fire, take, owed, run, run_from, next}
+use Rattle.network.specs.Trees.{Counts, most_owed}
 use Rattle.network.proofs.AllLaws.{three_laws, every_call}
 use Rattle.network.proofs.CallCounts.{counts_law}
 use Rattle.network.proofs.OwedBound.{bounds}

@@ -2,9 +2,9 @@
 use Rattle.std.proofs.Common.{◌≡◌, ℕ, ◌+◌, Bool, true, false, cond, ltb, leb, List, [], ◌∷◌, length, Ok, Err, Result, sym, refl, ap, ◌∙◌, arith}
 use Rattle.refusal.specs.declared.send.RouteFault.{RouteFault}
 use Rattle.refusal.specs.declared.send.PacketFault.{PacketFault}
-use Rattle.refusal.specs.declared.send.PacketFault.TheVariants.{NoSender, QueueFull, Route}
+use Rattle.refusal.specs.declared.send.PacketFault.TheVariants.{NoSender, QueueFull}
 use Rattle.packet.specs.Heads.{mode_of}
-use Rattle.packet.specs.Packets.{Header, check_packet, header_of}
+use Rattle.packet.specs.Packets.{Header, check_packet}
 use Rattle.wiring.specs.Shapes.{Shape}
 use Rattle.routing.specs.declared.walks.Walk.{Walk}
 use Rattle.routing.specs.Subtrees.{path_hops}

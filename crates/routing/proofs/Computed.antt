@@ -1,5 +1,5 @@
 -- The lowest card over others, found by a test of every card.
-use Rattle.std.proofs.Common.{◌≡◌, ℕ, zero, suc, ◌+◌, ◌<◌, ◌≤◌, Bool, true, false, cond, not, ◌&&◌, ◌||◌, eqb, ltb, List, [], ◌∷◌, sym, refl, ap, ◌∙◌, arith, ltb-true, eqb-true}
+use Rattle.std.proofs.Common.{◌≡◌, ℕ, zero, suc, ◌<◌, Bool, true, false, not, ◌&&◌, ◌||◌, eqb, ltb, List, ◌∷◌, sym, refl, ap, ◌∙◌, arith, ltb-true, eqb-true}
 use borrow.Author.Tests.{eqb-false}
 use Rattle.wiring.specs.Shapes.{Shape, Lawful}
 use Rattle.routing.specs.Subtrees.{covers, covers_all}

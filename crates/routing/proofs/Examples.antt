@@ -1,9 +1,9 @@
 -- The worked routes, each by computing.
-use Rattle.std.proofs.Common.{◌≡◌, ℕ, ◌+◌, ◌<◌, ◌≤◌, Bool, true, List, [], ◌∷◌, length, Some, Ok, Err, refl, arith, rules}
+use Rattle.std.proofs.Common.{◌≡◌, ℕ, ◌+◌, ◌<◌, ◌≤◌, true, List, [], ◌∷◌, length, Some, Ok, Err, refl, arith, rules}
 use Rattle.refusal.specs.declared.send.RouteFault.TheVariants.{EndsGoingUp, AboveRoot, NoDaughter}
 use Rattle.refusal.specs.declared.order.OrderFault.TheVariants.{TooLong}
 use Rattle.packet.specs.declared.sides.Side.{Side}
-use Rattle.packet.specs.declared.sides.Side.TheVariants.{Left, Right}
+use Rattle.packet.specs.declared.sides.Side.TheVariants.{Right}
 use Rattle.packet.specs.Routes.{route_in, route_room, bits_from, route_bits, has_one, ups_of, after_turn, before_stop, read_bits, read_route}
 use Rattle.packet.specs.Heads.{mode_of, head_word}
 use Rattle.routing.specs.declared.walks.Walk.{Walk}
@@ -11,7 +11,7 @@ use Rattle.wiring.specs.Shapes.{Shape, Lawful, full_shape}
 use Rattle.routing.specs.Walks.{climb, descend, walk_of}
 use Rattle.routing.specs.Subtrees.{covers_in, covers, covers_all, count_below, subtree_size, hops_a_word}
 use Rattle.routing.specs.Orders.{all_of, all_there, mode_for, Ordered}
-use Rattle.routing.specs.Worked.{Worked, HopsAre, Holds, AllHold, worked, full}
+use Rattle.routing.specs.Worked.{HopsAre, AllHold, worked, full}
 use Rattle.routing.proofs.Computed.{every_below, lowest_test, tested}
 
 full_lawful : (n : ℕ) → 1 ≤ n → n ≤ 31 → Lawful (full_shape n)

@@ -1,19 +1,14 @@
 -- A made route, read again; and the answer to an order.
-use Rattle.std.proofs.Common.{◌≡◌, ℕ, ◌+◌, ◌-◌, ◌%◌, ◌<◌, ◌≤◌, Bool, true, false, cond, ◌&&◌, eqb, ltb, leb, List, [], ◌∷◌, length, get_or, take, drop, Some, None, Ok, Err, Option, Result, sym, refl, ap, ◌∙◌, subst, ap₂, arith, ltb-true, le-ltb, lt-ltb, leb-false}
+use Rattle.std.proofs.Common.{◌≡◌, ℕ, ◌+◌, ◌-◌, ◌<◌, ◌≤◌, Bool, true, false, cond, ◌&&◌, ltb, List, [], ◌∷◌, length, get_or, take, drop, Some, None, Ok, sym, refl, ap, ◌∙◌, subst, ap₂, arith, ltb-true, le-ltb, lt-ltb, leb-false}
 use Rattle.std.proofs.lemmas.Slice.{first_rest}
-use Rattle.refusal.specs.declared.send.RouteFault.{RouteFault}
-use Rattle.refusal.specs.declared.order.OrderFault.{OrderFault}
-use Rattle.refusal.specs.declared.order.OrderFault.TheVariants.{Unknown, NoneListed, TooLong}
-use Rattle.packet.specs.declared.sides.Side.{Side}
 use Rattle.packet.specs.declared.heads.Mode.{Mode}
 use Rattle.packet.specs.declared.heads.Mode.TheVariants.{Target, Flood}
-use Rattle.packet.specs.Routes.{Leads, leads, route_in, read_route, fits_route, write_route, route_for, route_width}
+use Rattle.packet.specs.Routes.{Leads, route_in, read_route, fits_route, write_route, route_for, route_width}
 use Rattle.packet.specs.Heads.{head_word}
-use Rattle.routing.specs.declared.walks.Walk.{Walk}
 use Rattle.wiring.specs.Shapes.{Shape, Lawful}
-use Rattle.routing.specs.Walks.{climb, descend, walk_of, walk_by, walk_from, walk_to}
+use Rattle.routing.specs.Walks.{walk_of, walk_by, walk_from, walk_to}
 use Rattle.routing.specs.Subtrees.{covers, covers_all}
-use Rattle.routing.specs.Orders.{all_of, all_there, mode_for, Lowest, Journey, LeadsTo, TooFar, Serves, Unserved, Ordered, HeadTo}
+use Rattle.routing.specs.Orders.{all_of, all_there, mode_for, Lowest, Journey, LeadsTo, TooFar, Serves, Unserved}
 use Rattle.routing.proofs.Meeting.{lowest_by, and_parts, and_false}
 
 route_back : (m : Mode) (b : ℕ) → b < 512 → route_in (head_word m b) ≡ b

@@ -1,18 +1,18 @@
 -- Between two cards of a tree there is one way, so an order has one answer.
-use Rattle.std.proofs.Common.{◌≡◌, ℕ, zero, suc, ◌+◌, ◌%◌, ◌^◌, ◌<◌, ◌≤◌, Bool, true, false, List, [], ◌∷◌, ◌++◌, length, Some, None, Ok, Err, Option, Result, sym, refl, ap, ◌∙◌, subst, ap₂, append-nil, add-one, arith}
+use Rattle.std.proofs.Common.{◌≡◌, ℕ, zero, suc, ◌+◌, ◌<◌, ◌≤◌, Bool, true, false, List, [], ◌∷◌, length, Some, None, Ok, Err, Option, Result, sym, refl, ap, ◌∙◌, subst, ap₂, add-one, arith}
 use Rattle.refusal.specs.declared.send.RouteFault.{RouteFault}
 use Rattle.refusal.specs.declared.order.OrderFault.{OrderFault}
 use Rattle.refusal.specs.declared.order.OrderFault.TheVariants.{Unknown, NoneListed, TooLong}
 use Rattle.packet.specs.declared.sides.Side.{Side}
 use Rattle.packet.specs.declared.heads.Mode.{Mode}
-use Rattle.packet.specs.Routes.{Leads, leads, route_in, read_route, route_bits, route_for}
+use Rattle.packet.specs.Routes.{Leads, route_in, read_route, route_bits, route_for}
 use Rattle.packet.specs.Heads.{head_word}
 use Rattle.packet.proofs.Rewritten.{route_written}
 use Rattle.wiring.specs.Shapes.{Shape, Lawful}
 use Rattle.routing.specs.declared.walks.Walk.{Walk}
 use Rattle.routing.specs.Walks.{from_parent, climb, from_daughter, descend, walk_to, walk_from, walk_by, walk_of}
-use Rattle.routing.specs.Subtrees.{covers, covers_all}
-use Rattle.routing.specs.Orders.{all_there, mode_for, Lowest, Journey, LeadsTo, TooFar, Serves, Unserved, Ordered}
+use Rattle.routing.specs.Subtrees.{covers_all}
+use Rattle.routing.specs.Orders.{mode_for, Lowest, LeadsTo, TooFar, Serves, Unserved, Ordered}
 use Rattle.routing.proofs.Subtree.{covers_le}
 use Rattle.routing.proofs.Ways.{climb_more}
 

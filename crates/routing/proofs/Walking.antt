@@ -1,5 +1,5 @@
 -- A walk, link by link.
-use Rattle.std.proofs.Common.{◌≡◌, ℕ, zero, suc, ◌+◌, ◌-◌, ◌<◌, ◌≤◌, List, [], ◌∷◌, length, Some, None, Ok, Err, Option, Result, sym, refl, ap, ◌∙◌, arith}
+use Rattle.std.proofs.Common.{◌≡◌, ℕ, zero, suc, ◌-◌, ◌<◌, ◌≤◌, List, [], ◌∷◌, length, Some, None, Ok, Err, Option, sym, refl, ap, ◌∙◌, arith}
 use Rattle.refusal.specs.declared.send.RouteFault.TheVariants.{NoDaughter}
 use Rattle.packet.specs.declared.sides.Side.{Side}
 use Rattle.packet.specs.Courses.{split_sides}

@@ -1,7 +1,5 @@
 -- Ways up and down between a card and one that stands over it.
-use Rattle.std.proofs.Common.{◌≡◌, ℕ, zero, suc, ◌+◌, ◌<◌, ◌≤◌, Bool, true, false, cond, ◌||◌, eqb, ltb, List, [], ◌∷◌, ◌++◌, length, Some, None, Ok, Err, Option, Result, sym, refl, ap, ◌∙◌, arith, length-append, ltb-false, eqb-true}
-use Rattle.refusal.specs.declared.send.RouteFault.{RouteFault}
-use Rattle.refusal.specs.declared.send.RouteFault.TheVariants.{NoDaughter}
+use Rattle.std.proofs.Common.{◌≡◌, ℕ, zero, suc, ◌+◌, ◌<◌, ◌≤◌, Bool, true, false, cond, eqb, ltb, List, [], ◌∷◌, ◌++◌, length, Some, None, Ok, Option, sym, refl, ap, ◌∙◌, arith, length-append, ltb-false, eqb-true}
 use Rattle.packet.specs.declared.sides.Side.{Side}
 use Rattle.packet.specs.Courses.{sides_before}
 use Rattle.wiring.specs.Shapes.{Shape, Lawful}

@@ -1,5 +1,5 @@
 -- How a station stands, and which word may pass.
-use Rattle.std.specs.Prelude.{ℕ, Bool, true, false, cond, Ok, Err, Result, ◌==◌}
+use Rattle.std.specs.Prelude.{ℕ, Bool, cond, Ok, Err, Result, ◌==◌}
 use Rattle.refusal.specs.declared.drive.FireFault.{FireFault}
 use Rattle.refusal.specs.declared.drive.FireFault.TheVariants.{NothingWaits, HeldByOther}
 use Rattle.packet.specs.declared.words.Kind.{Kind}

@@ -1,6 +1,5 @@
 -- What a station does with a word that may pass: where it writes the word, and what becomes of it at the card itself.
-use Rattle.std.specs.Prelude.{ℕ, ◌+◌, Bool, true, false, cond, not, ◌&&◌, Some, None, Option, ◌==◌}
-use Rattle.packet.specs.declared.sides.Side.{Side}
+use Rattle.std.specs.Prelude.{ℕ, ◌+◌, Bool, false, cond, not, ◌&&◌, Some, None, Option, ◌==◌}
 use Rattle.packet.specs.declared.sides.Side.TheVariants.{Left, Right}
 use Rattle.packet.specs.Routes.{top_bit, advance, stops}
 use Rattle.packet.specs.Heads.{floods, key_of, stamped}

@@ -1,6 +1,6 @@
 -- One card of a table written or read, seen as the state that the table means.
 use Rattle.std.proofs.Common.{◌≡◌, ℕ, zero, suc, ◌<◌, List, [], ◌∷◌, map, length, get_or, set, sym, refl, ap, ◌∙◌, arith}
-use Rattle.network.specs.Cards.{Card, State, blank, card_at, on_card}
+use Rattle.network.specs.Cards.{Card, blank, card_at, on_card}
 use Rattle.store.specs.declared.cards.Card.{Card as StoredCard}
 use Rattle.store.specs.Views.{card_in}
 

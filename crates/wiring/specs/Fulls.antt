@@ -1,5 +1,5 @@
 -- The full tree by its levels.
-use Rattle.std.specs.Prelude.{ℕ, Bool, cond, ◌&&◌, Ok, Err, Result, nat_le}
+use Rattle.std.specs.Prelude.{ℕ, cond, ◌&&◌, Ok, Err, Result, nat_le}
 use Rattle.refusal.specs.declared.build.WiringFault.{WiringFault}
 use Rattle.refusal.specs.declared.build.WiringFault.TheVariants.{Size}
 use Rattle.wiring.specs.declared.full.FullTree.{FullTree}

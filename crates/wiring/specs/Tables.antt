@@ -1,5 +1,5 @@
 -- A wiring from a table: two bytes for each card in turn, its left and its right daughter, 255 for none.
-use Rattle.std.specs.Prelude.{◌≡◌, ℕ, ◌+◌, ◌*◌, ◌/◌, ◌%◌, ◌<◌, ◌≤◌, Bool, cond, ◌&&◌, ◌⊎◌, List, length, Some, None, Ok, Err, Option, Result, ◌==◌, ◌≢◌, nat_lt, slice_index_or}
+use Rattle.std.specs.Prelude.{◌≡◌, ℕ, ◌+◌, ◌*◌, ◌/◌, ◌%◌, ◌<◌, ◌≤◌, cond, List, length, Some, None, Ok, Err, Option, Result, ◌==◌, ◌≢◌, nat_lt, slice_index_or}
 use Rattle.refusal.specs.declared.build.WiringFault.{WiringFault}
 use Rattle.refusal.specs.declared.build.WiringFault.TheVariants.{Size, Broken}
 use Rattle.packet.specs.declared.sides.Side.{Side}

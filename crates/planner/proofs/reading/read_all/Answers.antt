@@ -1,4 +1,4 @@
-use Rattle.std.proofs.Common.{◌≡◌, ℕ, List, length, vec_items, Option, sym, ap, ◌∙◌, arith}
+use Rattle.std.proofs.Common.{ℕ, List, length, vec_items, sym, ap, ◌∙◌, arith}
 use Rattle.text.specs.Fields.{fields_left, rest_of}
 use Rattle.planner.specs.Lines.{read_all}
 use Rattle.planner.proofs.All.{behind, all_start, all_end, all_bad, all_more, fewer}

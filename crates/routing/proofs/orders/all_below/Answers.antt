@@ -1,4 +1,4 @@
-use Rattle.std.proofs.Common.{◌≡◌, ℕ, ltb, get_or, sym, refl, ◌∙◌, le-ltb, lt-ltb}
+use Rattle.std.proofs.Common.{ltb, get_or, sym, refl, ◌∙◌, le-ltb, lt-ltb}
 use Rattle.routing.proofs.Meeting.{test_done, test_fails, test_passes}
 use Rattle.routing.proofs.orders.all_below.Goals as goal
 

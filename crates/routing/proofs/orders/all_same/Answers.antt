@@ -1,4 +1,4 @@
-use Rattle.std.proofs.Common.{◌≡◌, eqb, get_or, sym, refl, ◌∙◌, eq-eqb, ne_eqb}
+use Rattle.std.proofs.Common.{eqb, get_or, sym, refl, ◌∙◌, eq-eqb, ne_eqb}
 use Rattle.routing.proofs.Meeting.{test_done, test_fails, test_passes}
 use Rattle.routing.proofs.orders.all_same.Goals as goal
 

@@ -1,4 +1,4 @@
-use Rattle.std.proofs.Common.{◌≡◌, None, Option, sym, ap, ◌∙◌, subst, arith}
+use Rattle.std.proofs.Common.{None, Option, sym, ap, ◌∙◌, subst, arith}
 use Rattle.packet.specs.Routes.{Leads}
 use Rattle.packet.specs.Courses.{course_told}
 use Rattle.routing.specs.Orders.{CourseTo}

@@ -1,4 +1,4 @@
-use Rattle.std.proofs.Common.{◌≡◌, ℕ, Option, sym, refl, ap, subst}
+use Rattle.std.proofs.Common.{ℕ, Option, sym, refl, ap, subst}
 use Rattle.packet.specs.Courses.{course_of}
 use Rattle.routing.specs.Orders.{HeadTo, head_in}
 use Rattle.routing.proofs.Ordering.{written-leads, unwritten_far}

@@ -1,4 +1,4 @@
-use Rattle.std.proofs.Common.{◌≡◌, Some, ap, ◌∙◌, arith}
+use Rattle.std.proofs.Common.{Some, ap, ◌∙◌, arith}
 use Rattle.routing.proofs.Ways.{climb_none, climb_more, under, still_under}
 use Rattle.routing.proofs.orders.links_up.Goals as goal
 

@@ -1,4 +1,4 @@
-use Rattle.std.proofs.Common.{◌≡◌, ◌+◌, ◌<◌, ◌≤◌, true, Some}
+use Rattle.std.proofs.Common.{◌≡◌, ◌+◌, ◌≤◌, true, Some}
 use Rattle.routing.specs.Walks.{climb}
 use Rattle.routing.specs.Subtrees.{covers}
 use Rattle.routing.proofs.orders.links_up.Given as goal

@@ -1,6 +1,5 @@
-use Rattle.std.proofs.Common.{◌≡◌, ℕ, ◌+◌, ◌<◌, Bool, true, ◌&&◌, ltb, get_or, drop, sym, refl, ap, ◌∙◌, ltb-true}
+use Rattle.std.proofs.Common.{◌+◌, Bool, ◌&&◌, ltb, get_or, drop, sym, refl, ap, ◌∙◌, ltb-true}
 use Rattle.routing.specs.Subtrees.{covers, covers_all}
-use Rattle.routing.specs.Orders.{all_of}
 use Rattle.routing.proofs.Meeting.{and_true, and_assoc, and_parts, all_next, all_done, test_next}
 use Rattle.routing.proofs.orders.lowest.Goals as goal
 

@@ -1,4 +1,4 @@
-use Rattle.std.proofs.Common.{◌≡◌, ℕ, ◌<◌, Bool, true, false, ◌&&◌, sym, refl, ap, ◌∙◌, arith}
+use Rattle.std.proofs.Common.{ℕ, ◌<◌, ◌&&◌, sym, refl, ap, ◌∙◌, arith}
 use Rattle.routing.specs.Subtrees.{covers}
 use Rattle.routing.proofs.Meeting.{meet_up, meet_up', and_same}
 use Rattle.routing.proofs.orders.meet.Goals as goal

@@ -1,4 +1,4 @@
-use Rattle.std.proofs.Common.{◌≡◌, ℕ, ◌<◌, ◌≤◌, Bool, true, false, ltb, List, length, Ok, Err, sym, ap, ◌∙◌, arith, rules}
+use Rattle.std.proofs.Common.{◌≡◌, ℕ, ◌<◌, ltb, List, length, Ok, Err, sym, ap, ◌∙◌, arith, rules}
 use Rattle.wiring.specs.Shapes.{Shape}
 use Rattle.routing.specs.Orders.{all_of, all_there, Ordered}
 use Rattle.routing.proofs.Ordering.{sender_unknown, listed_unknown, all_known, none_listed, first_known, served, unserved}

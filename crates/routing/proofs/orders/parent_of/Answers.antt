@@ -1,4 +1,4 @@
-use Rattle.std.proofs.Common.{◌≡◌, Bool, true, false, is_some, sym, ap, ◌∙◌, arith}
+use Rattle.std.proofs.Common.{◌≡◌, true, false, is_some, ap, ◌∙◌, arith}
 use Rattle.routing.proofs.orders.parent_of.Goals as goal
 
 pub unreachable-requires : goal.unreachable-requires

@@ -1,4 +1,4 @@
-use Rattle.std.proofs.Common.{◌≡◌, ℕ, List, ◌∷◌, None, Option, sym, ap, ◌∙◌, subst, arith}
+use Rattle.std.proofs.Common.{List, Option, sym, ap, ◌∙◌, subst, arith}
 use Rattle.packet.specs.declared.sides.Side.{Side}
 use Rattle.packet.specs.Courses.{sides_in, sides_told}
 use Rattle.routing.specs.Walks.{descend}

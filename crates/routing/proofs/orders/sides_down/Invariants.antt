@@ -1,4 +1,4 @@
-use Rattle.std.proofs.Common.{◌≡◌, ◌<◌, ◌≤◌, true, Ok}
+use Rattle.std.proofs.Common.{◌≡◌, ◌≤◌, true, Ok}
 use Rattle.packet.specs.Courses.{sides_in}
 use Rattle.routing.specs.Walks.{descend}
 use Rattle.routing.specs.Subtrees.{covers}

@@ -1,4 +1,4 @@
-use Rattle.std.proofs.Common.{◌≡◌, ℕ, suc, ◌+◌, Bool, true, false, cond, sym, refl, ap, ◌∙◌, add-one, arith}
+use Rattle.std.proofs.Common.{◌≡◌, ℕ, ◌+◌, Bool, true, false, cond, sym, refl, ap, ◌∙◌, add-one, arith}
 use Rattle.routing.specs.Subtrees.{count_below, subtree_size, covers}
 use Rattle.routing.proofs.subtrees.subtree_size.Goals as goal
 use Rattle.routing.proofs.subtrees.subtree_size.Goals.{then-stands_over, else-stands_over}

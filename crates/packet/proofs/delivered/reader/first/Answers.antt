@@ -1,4 +1,4 @@
-use Rattle.std.proofs.Common.{◌≡◌, ℕ, ◌+◌, Bool, sym, ap, ◌∙◌, arith}
+use Rattle.std.proofs.Common.{◌≡◌, ℕ, ◌+◌, sym, ap, ◌∙◌, arith}
 use Rattle.packet.specs.Deliveries.{marked}
 use Rattle.packet.proofs.Scanning.{scan_start, scan_skip, scan_found, scan_end}
 use Rattle.packet.proofs.delivered.reader.first.Goals as goal

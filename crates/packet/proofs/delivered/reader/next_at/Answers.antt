@@ -1,4 +1,4 @@
-use Rattle.std.proofs.Common.{◌≡◌, ℕ, ◌+◌, ◌-◌, ap, ◌∙◌, arith}
+use Rattle.std.proofs.Common.{ℕ, ◌+◌, ◌-◌, ap, ◌∙◌, arith}
 use Rattle.packet.specs.Deliveries.{place_after}
 use Rattle.packet.proofs.Scanning.{next_none, next_some, not_past, part, part_length}
 use Rattle.packet.proofs.delivered.reader.next_at.Goals as goal

@@ -1,4 +1,4 @@
-use Rattle.std.proofs.Common.{◌≡◌, ℕ, ◌+◌, ◌<◌, ◌≤◌, Some, None, sym, ap, ◌∙◌, arith, rules}
+use Rattle.std.proofs.Common.{◌≡◌, ℕ, ◌+◌, ◌<◌, sym, ap, ◌∙◌, arith, rules}
 use Rattle.packet.specs.Routes.{read_route}
 use Rattle.packet.specs.Courses.{route_told, sides_in}
 use Rattle.packet.proofs.Writing.{writes, writes_none, reads, written, route_below}

@@ -1,6 +1,5 @@
-use Rattle.std.proofs.Common.{◌≡◌, ◌-◌, Some, None, sym, refl, ap, ◌∙◌}
-use Rattle.packet.specs.Courses.{sides_told, course_told, sides_in}
-use Rattle.packet.specs.Routes.{bits_from, stopped}
+use Rattle.std.proofs.Common.{◌-◌, Some, None, ap, ◌∙◌}
+use Rattle.packet.specs.Courses.{course_told, sides_in}
 use Rattle.packet.proofs.Reading.{read_by}
 use Rattle.packet.proofs.routes.Route.course.Goals as goal
 

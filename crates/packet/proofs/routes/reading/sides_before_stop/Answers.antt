@@ -1,4 +1,4 @@
-use Rattle.std.proofs.Common.{◌≡◌, ℕ, ◌%◌, ◌^◌, ◌<◌, Bool, List, map, Some, sym, refl, ap, ◌∙◌, mod-lt, arith}
+use Rattle.std.proofs.Common.{◌%◌, ◌^◌, ◌<◌, Bool, List, map, Some, sym, ap, ◌∙◌, mod-lt, arith}
 use Rattle.std.proofs.lemmas.Nat.{pow_pos}
 use Rattle.packet.specs.Routes.{side_of, before_stop, bits_from}
 use Rattle.packet.proofs.Bits.{bits_low}

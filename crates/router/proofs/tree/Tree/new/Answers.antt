@@ -1,6 +1,5 @@
-use Rattle.std.proofs.Common.{◌≡◌, [], sym, refl, subst}
-use Rattle.router.specs.Kept.{Meaning, tree_of, Stands}
-use Rattle.router.specs.Calls.{new_tree}
+use Rattle.std.proofs.Common.{[], sym, refl, subst}
+use Rattle.router.specs.Kept.{Meaning, Stands}
 use Rattle.router.proofs.Leading.{begins, same_tree}
 use Rattle.router.proofs.tree.Tree.new.Goals as goal
 

@@ -1,4 +1,4 @@
-use Rattle.std.proofs.Common.{◌≡◌, ap}
+use Rattle.std.proofs.Common.{ap}
 use Rattle.network.specs.Runs.{take}
 use Rattle.store.specs.Views.{state_of}
 use Rattle.router.proofs.Leading.{same_tree, keeps_to, take-leads}

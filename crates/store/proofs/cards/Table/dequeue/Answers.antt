@@ -1,5 +1,5 @@
-use Rattle.std.proofs.Common.{ℕ, List, [], ◌∷◌, ◌++◌, length, get_or, ap, ◌∙◌, arith}
-use Rattle.network.specs.Cards.{Card, card_at, with_queue, with_inbox, oldest, younger}
+use Rattle.std.proofs.Common.{ℕ, List, get_or, ap, ◌∙◌, arith}
+use Rattle.network.specs.Cards.{Card, card_at, with_queue, younger}
 use Rattle.store.specs.Views.{card_in, state_of}
 use Rattle.store.proofs.Written.{wrote, read}
 use Rattle.store.proofs.cards.Table.dequeue.Goals as goal
