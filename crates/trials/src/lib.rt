@@ -13,3 +13,5 @@ mod refusals;
 mod routes;
 #[cfg(test)]
 mod tables;
+#[cfg(test)]
+mod trees;
