@@ -1,7 +1,8 @@
 -- The stations that a route passes, one by one, are those of its climbs, its turn and its descents.
 use Rattle.std.proofs.Common.{◌≡◌, ℕ, zero, suc, ◌+◌, ◌<◌, ◌≤◌, Bool, true, false, cond, List, [], ◌∷◌, map, length, Some, None, Ok, Option, Result, sym, refl, ap, ◌∙◌, ap₂, arith}
 use Rattle.refusal.specs.declared.send.RouteFault.{RouteFault}
-use Rattle.packet.proofs.Moving.{low_stops, moved_bits, one_pad, route_top, stop_pad, turn_one_pad, turn_stop_pad, ups_pad}
+use Rattle.packet.proofs.Moving.{low_stops, moved_bits, route_top, turn_one_pad, turn_stop_pad, ups_pad}
+use Rattle.packet.proofs.Reading.{one_zero, before_zero}
 use Rattle.packet.specs.Routes.{advance, after_turn, before_stop, has_one, low_bits, route_bits, side_of, stops, top_bit, ups_of}
 use Rattle.packet.specs.declared.sides.Side.{Side}
 use Rattle.wiring.specs.Shapes.{Shape}
@@ -26,7 +27,7 @@ module _ (W : Shape) (L : Rooted W) where
 
   moved_sides : (h : ℕ) → sides_of (route_bits (advance h)) ≡ sides_of (low_bits h)
   unfolding sides_of
-  moved_sides h = ap (map side_of) (ap before_stop (moved_bits h) ∙ stop_pad (low_bits h))
+  moved_sides h = ap (map side_of) (ap before_stop (moved_bits h) ∙ before_zero (low_bits h))
 
   down_way : (k c h t : ℕ) → ((d : ℕ) → c < d → d < W.cards → Down k t d (advance h)) → (o : Option ℕ) → W.daughter (side_of (top_bit h)) c ≡ o →
       has_one (low_bits h) ≡ true → from_daughter c (descend W (sides_of (low_bits h))) o ≡ Ok t →
@@ -36,7 +37,7 @@ module _ (W : Shape) (L : Rooted W) where
   down_way k c h t rec (Some d) q o e =
       let l = L.below d c (L.up (side_of (top_bit h)) c d q) in
       let s = moved_sides h in
-      let r = rec d l.0 l.1 (ap has_one (moved_bits h) ∙ one_pad (low_bits h) ∙ o) (ap (λ (bs : List Side). descend W bs d) s ∙ e) in
+      let r = rec d l.0 l.1 (ap has_one (moved_bits h) ∙ one_zero (low_bits h) ∙ o) (ap (λ (bs : List Side). descend W bs d) s ∙ e) in
       rw r (ap (λ (bs : List Side). Some (suc (length bs), t)) s)
 
   -- the sides, by the top bit and the bits below it
@@ -107,7 +108,7 @@ module _ (W : Shape) (L : Rooted W) where
   turning k h u t c hc r o e f =
       let cu : c ≡ u = cc in
       let s = moved_sides h in
-      let d = down_trip k c (advance h) t hc r (ap has_one (moved_bits h) ∙ one_pad (low_bits h) ∙ o) (ap₂ (λ (bs : List Side) (c : ℕ). descend W bs c) s cu ∙ f) in
+      let d = down_trip k c (advance h) t hc r (ap has_one (moved_bits h) ∙ one_zero (low_bits h) ∙ o) (ap₂ (λ (bs : List Side) (c : ℕ). descend W bs c) s cu ∙ f) in
       rw d (ap (λ (n : ℕ). Some (n, t)) (ap (λ (bs : List Side). suc (length bs)) s ∙ omega arith))
 
   pub up_trip : (k c h u t : ℕ) → c < W.cards → W.cards + 1 + c ≤ k → Up k u t c h

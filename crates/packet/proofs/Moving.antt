@@ -1,5 +1,5 @@
 -- A route moved up by one bit, over any width.
-use Rattle.std.proofs.Common.{◌≡◌, ℕ, zero, suc, ◌+◌, ◌-◌, ◌*◌, ◌/◌, ◌%◌, ◌^◌, Bool, true, false, cond, not, ◌||◌, eqb, List, [], ◌∷◌, ◌++◌, sym, refl, ap, ◌∙◌, ap₂, mod-lt, mul-add, one-add, arith, shr-shr, eq-eqb, ne_eqb, eqb-true}
+use Rattle.std.proofs.Common.{◌≡◌, ℕ, zero, suc, ◌+◌, ◌-◌, ◌*◌, ◌/◌, ◌%◌, ◌^◌, Bool, true, false, not, eqb, List, [], ◌∷◌, ◌++◌, sym, refl, ap, ◌∙◌, ap₂, mod-lt, mul-add, one-add, arith, shr-shr, eq-eqb, ne_eqb, eqb-true}
 use native.Mathlib.Nat.{two-pow-succ, zero-mod}
 use lib.Pow.{mod-mod-pow}
 use Rattle.std.proofs.lemmas.Nat.{pow_pos, shr_split, shr_high, mod_low}
@@ -10,6 +10,7 @@ use Rattle.packet.specs.Packets.{is_head, is_tail, is_head_word, is_tail_word}
 use Rattle.packet.specs.Routes.{route_width, bits_from, route_bits, low_bits, top_bit, shifted, advance, stops, has_one, ups_of, after_turn, before_stop}
 use Rattle.packet.specs.Heads.{floods, stamped}
 use Rattle.packet.proofs.Bits.{bits_same, bits_last, has_one_lem}
+use Rattle.packet.proofs.Reading.{one_zero, before_zero}
 
 -- the low bits, doubled
 doubled : (k n : ℕ) → (2 * n) % 2 ^ suc k ≡ 2 * (n % 2 ^ k)
@@ -117,31 +118,21 @@ pub stamp_head : (w v : ℕ) → is_head_word (stamped w v) ≡ is_head_word w
 unfolding is_head_word
 stamp_head w v = ap is_head (stamp_kind w v)
 
--- a 0 after the last bit changes nothing
-pub one_pad : (bs : List Bool) → has_one (bs ++ (false ∷ [])) ≡ has_one bs
-unfolding has_one
-one_pad [] = refl
-one_pad (b ∷ bs) = ap (λ (x : Bool). b || x) (one_pad bs)
-
+-- a 0 after the last bit changes nothing else either
 pub ups_pad : (bs : List Bool) → ups_of (bs ++ (false ∷ [])) ≡ ups_of bs
 unfolding ups_of
 ups_pad [] = refl
 ups_pad (true ∷ bs) = ap suc (ups_pad bs)
 ups_pad (false ∷ bs) = refl
 
-pub stop_pad : (bs : List Bool) → before_stop (bs ++ (false ∷ [])) ≡ before_stop bs
-unfolding before_stop has_one
-stop_pad [] = refl
-stop_pad (b ∷ bs) = ap₂ (λ (x : Bool) (r : List Bool). cond x (b ∷ r) []) (one_pad bs) (stop_pad bs)
-
 pub turn_one_pad : (bs : List Bool) → has_one (after_turn (bs ++ (false ∷ []))) ≡ has_one (after_turn bs)
 unfolding after_turn
 turn_one_pad [] = refl
 turn_one_pad (true ∷ bs) = turn_one_pad bs
-turn_one_pad (false ∷ bs) = one_pad bs
+turn_one_pad (false ∷ bs) = one_zero bs
 
 pub turn_stop_pad : (bs : List Bool) → before_stop (after_turn (bs ++ (false ∷ []))) ≡ before_stop (after_turn bs)
 unfolding after_turn
 turn_stop_pad [] = refl
 turn_stop_pad (true ∷ bs) = turn_stop_pad bs
-turn_stop_pad (false ∷ bs) = stop_pad bs
+turn_stop_pad (false ∷ bs) = before_zero bs

@@ -49,12 +49,12 @@ climbed_all w a n l m (u, t) =
     (omega arith, t ∙ (ap (λ (k : ℕ). after_turn (bits_from k n)) e ∙ sym (ap (λ (k : ℕ). bits_from k n) f)))
 
 -- the stop is the last 1
-one_zero : (bs : List Bool) → has_one (bs ++ (false ∷ [])) ≡ has_one bs
+pub one_zero : (bs : List Bool) → has_one (bs ++ (false ∷ [])) ≡ has_one bs
 unfolding has_one
 one_zero [] = refl
 one_zero (b ∷ bs) = ap (λ (x : Bool). b || x) (one_zero bs)
 
-before_zero : (bs : List Bool) → before_stop (bs ++ (false ∷ [])) ≡ before_stop bs
+pub before_zero : (bs : List Bool) → before_stop (bs ++ (false ∷ [])) ≡ before_stop bs
 unfolding before_stop has_one
 before_zero [] = refl
 before_zero (b ∷ bs) = ap₂ (λ (x : Bool) (r : List Bool). cond x (b ∷ r) []) (one_zero bs) (before_zero bs)
