@@ -3,7 +3,7 @@ ghost use Rattle.std.specs.Prelude.{◌≡◌, Some, None};
 ghost use Rattle.planner.specs.declared.faults.PlanFault.TheVariants.{Wiring as PlanWiring, Order as PlanOrder, Memory as PlanMemory};
 ghost use Rattle.planner.specs.Answers.{plan_refusal};
 
-use refusal::{OrderFault, Refusal, WiringFault};
+use refusal::{Fault, OrderFault, Refusal, WiringFault};
 use std::alloc::AllocError;
 use std::fmt;
 

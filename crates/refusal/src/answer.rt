@@ -4,7 +4,7 @@ ghost use Rattle.refusal.specs.Numbers.{numbered, placed, refusal_text};
 
 use std::fmt;
 
-// A refusal as it is answered: its number, and its place where it has one.
+// A refusal as it is answered: its number, and its place where it has one. The number, not an enum, is the product's answer to the host.
 #[derive(Clone, Copy)]
 pub struct Refusal {
     pub number: u8,
@@ -12,6 +12,7 @@ pub struct Refusal {
 }
 
 impl Refusal {
+    // A refusal with no place.
     pub(crate) fn of(number: u8) -> Refusal
         ensures { result ≡ numbered number }
     {
@@ -21,6 +22,7 @@ impl Refusal {
         }
     }
 
+    // A refusal that names a place.
     pub(crate) fn at(number: u8, place: usize) -> Refusal
         ensures { result ≡ placed number place }
     {

@@ -1,9 +1,10 @@
 // Refusals of whoever builds a wiring or keeps the licences.
-ghost use Rattle.std.specs.Prelude.{◌≡◌, Some};
+ghost use Rattle.std.specs.Prelude.{Some};
 ghost use Rattle.refusal.specs.Sentences.{sentence, wiring_reason, licence_reason};
 ghost use Rattle.refusal.specs.Refusals.{wiring_refusal, licence_refusal};
 
 use crate::answer::Refusal;
+use crate::fault::{Fault, write_sentence};
 use std::fmt;
 
 // A wiring that is not built: its size, or a table that is no tree.
@@ -13,22 +14,19 @@ pub enum WiringFault {
     Broken,
 }
 
-impl WiringFault {
-    pub fn refusal(&self) -> Refusal
-        ensures { result ≡ wiring_refusal self.now }
-    {
+impl Fault for WiringFault {
+    ghost refusal = { wiring_refusal };
+
+    ghost reason = { wiring_reason };
+
+    fn refusal(&self) -> Refusal {
         match *self {
             WiringFault::Size => Refusal::of(1),
             WiringFault::Broken => Refusal::of(2),
         }
     }
-}
 
-impl WiringFault {
-    // What is wrong, in words.
-    fn reason(&self) -> &'static str
-        ensures { result.now ≡ wiring_reason self.now }
-    {
+    fn reason(&self) -> &'static str {
         match *self {
             WiringFault::Size =>
                 "a tree has 1 to 5 levels, and a table two entries for each of 1 to 31 cards",
@@ -42,9 +40,7 @@ impl fmt::Display for WiringFault {
     ghost output = { λ fault. Some (sentence (wiring_refusal fault) (wiring_reason fault)) };
 
     fn fmt<W: fmt::Write>(&self, f: &mut fmt::Formatter<W>) -> fmt::Result {
-        let refusal = self.refusal();
-        let reason = self.reason();
-        write!(f, "{refusal}: {reason}")
+        write_sentence(self, f)
     }
 }
 
@@ -55,22 +51,19 @@ pub enum LicenceFault {
     TooManyRules,
 }
 
-impl LicenceFault {
-    pub fn refusal(&self) -> Refusal
-        ensures { result ≡ licence_refusal self.now }
-    {
+impl Fault for LicenceFault {
+    ghost refusal = { licence_refusal };
+
+    ghost reason = { licence_reason };
+
+    fn refusal(&self) -> Refusal {
         match *self {
             LicenceFault::BadRule => Refusal::of(3),
             LicenceFault::TooManyRules => Refusal::of(4),
         }
     }
-}
 
-impl LicenceFault {
-    // What is wrong, in words.
-    fn reason(&self) -> &'static str
-        ensures { result.now ≡ licence_reason self.now }
-    {
+    fn reason(&self) -> &'static str {
         match *self {
             LicenceFault::BadRule =>
                 "a bound, the class, the key value or the card set of the rule is out of range",
@@ -83,8 +76,6 @@ impl fmt::Display for LicenceFault {
     ghost output = { λ fault. Some (sentence (licence_refusal fault) (licence_reason fault)) };
 
     fn fmt<W: fmt::Write>(&self, f: &mut fmt::Formatter<W>) -> fmt::Result {
-        let refusal = self.refusal();
-        let reason = self.reason();
-        write!(f, "{refusal}: {reason}")
+        write_sentence(self, f)
     }
 }

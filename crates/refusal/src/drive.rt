@@ -1,9 +1,10 @@
 // Refusals of whoever drives fires, takes words, and reads what was delivered.
-ghost use Rattle.std.specs.Prelude.{◌≡◌, Some};
+ghost use Rattle.std.specs.Prelude.{Some};
 ghost use Rattle.refusal.specs.Sentences.{sentence, fire_reason, take_reason, delivery_reason};
 ghost use Rattle.refusal.specs.Refusals.{fire_refusal, take_refusal, delivery_refusal};
 
 use crate::answer::Refusal;
+use crate::fault::{Fault, write_sentence};
 use std::fmt;
 
 // A fire that is not made.
@@ -17,10 +18,12 @@ pub enum FireFault {
     InboxFull,
 }
 
-impl FireFault {
-    pub fn refusal(&self) -> Refusal
-        ensures { result ≡ fire_refusal self.now }
-    {
+impl Fault for FireFault {
+    ghost refusal = { fire_refusal };
+
+    ghost reason = { fire_reason };
+
+    fn refusal(&self) -> Refusal {
         match *self {
             FireFault::NoCard => Refusal::of(5),
             FireFault::NoInput => Refusal::of(13),
@@ -30,13 +33,8 @@ impl FireFault {
             FireFault::InboxFull => Refusal::of(17),
         }
     }
-}
 
-impl FireFault {
-    // What is wrong, in words.
-    fn reason(&self) -> &'static str
-        ensures { result.now ≡ fire_reason self.now }
-    {
+    fn reason(&self) -> &'static str {
         match *self {
             FireFault::NoCard => "there is no such card",
             FireFault::NoInput => "the station has no such input",
@@ -52,9 +50,7 @@ impl fmt::Display for FireFault {
     ghost output = { λ fault. Some (sentence (fire_refusal fault) (fire_reason fault)) };
 
     fn fmt<W: fmt::Write>(&self, f: &mut fmt::Formatter<W>) -> fmt::Result {
-        let refusal = self.refusal();
-        let reason = self.reason();
-        write!(f, "{refusal}: {reason}")
+        write_sentence(self, f)
     }
 }
 
@@ -65,22 +61,19 @@ pub enum TakeFault {
     InboxEmpty,
 }
 
-impl TakeFault {
-    pub fn refusal(&self) -> Refusal
-        ensures { result ≡ take_refusal self.now }
-    {
+impl Fault for TakeFault {
+    ghost refusal = { take_refusal };
+
+    ghost reason = { take_reason };
+
+    fn refusal(&self) -> Refusal {
         match *self {
             TakeFault::NoReader => Refusal::of(5),
             TakeFault::InboxEmpty => Refusal::of(18),
         }
     }
-}
 
-impl TakeFault {
-    // What is wrong, in words.
-    fn reason(&self) -> &'static str
-        ensures { result.now ≡ take_reason self.now }
-    {
+    fn reason(&self) -> &'static str {
         match *self {
             TakeFault::NoReader => "there is no such card",
             TakeFault::InboxEmpty => "the inbox is empty",
@@ -92,9 +85,7 @@ impl fmt::Display for TakeFault {
     ghost output = { λ fault. Some (sentence (take_refusal fault) (take_reason fault)) };
 
     fn fmt<W: fmt::Write>(&self, f: &mut fmt::Formatter<W>) -> fmt::Result {
-        let refusal = self.refusal();
-        let reason = self.reason();
-        write!(f, "{refusal}: {reason}")
+        write_sentence(self, f)
     }
 }
 
@@ -105,22 +96,19 @@ pub enum DeliveryFault {
     WrongBits { place: usize },
 }
 
-impl DeliveryFault {
-    pub fn refusal(&self) -> Refusal
-        ensures { result ≡ delivery_refusal self.now }
-    {
+impl Fault for DeliveryFault {
+    ghost refusal = { delivery_refusal };
+
+    ghost reason = { delivery_reason };
+
+    fn refusal(&self) -> Refusal {
         match *self {
             DeliveryFault::WrongKind { place } => Refusal::at(7, place),
             DeliveryFault::WrongBits { place } => Refusal::at(8, place),
         }
     }
-}
 
-impl DeliveryFault {
-    // What is wrong, in words.
-    fn reason(&self) -> &'static str
-        ensures { result.now ≡ delivery_reason self.now }
-    {
+    fn reason(&self) -> &'static str {
         match *self {
             DeliveryFault::WrongKind { .. } => "the word is of the wrong kind",
             DeliveryFault::WrongBits { .. } => "the key word has reserved bits set",
@@ -132,8 +120,6 @@ impl fmt::Display for DeliveryFault {
     ghost output = { λ fault. Some (sentence (delivery_refusal fault) (delivery_reason fault)) };
 
     fn fmt<W: fmt::Write>(&self, f: &mut fmt::Formatter<W>) -> fmt::Result {
-        let refusal = self.refusal();
-        let reason = self.reason();
-        write!(f, "{refusal}: {reason}")
+        write_sentence(self, f)
     }
 }

@@ -4,11 +4,13 @@
 mod answer;
 mod build;
 mod drive;
+mod fault;
 mod order;
 mod send;
 
 pub use answer::Refusal;
 pub use build::{LicenceFault, WiringFault};
 pub use drive::{DeliveryFault, FireFault, TakeFault};
+pub use fault::Fault;
 pub use order::OrderFault;
 pub use send::{PacketFault, RouteFault};

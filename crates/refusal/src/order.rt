@@ -1,9 +1,10 @@
 // Refusals of route orders.
-ghost use Rattle.std.specs.Prelude.{◌≡◌, Some};
+ghost use Rattle.std.specs.Prelude.{Some};
 ghost use Rattle.refusal.specs.Sentences.{sentence, order_reason};
 ghost use Rattle.refusal.specs.Refusals.{order_refusal};
 
 use crate::answer::Refusal;
+use crate::fault::{Fault, write_sentence};
 use std::fmt;
 
 // A route that is not made.
@@ -14,23 +15,20 @@ pub enum OrderFault {
     TooLong,
 }
 
-impl OrderFault {
-    pub fn refusal(&self) -> Refusal
-        ensures { result ≡ order_refusal self.now }
-    {
+impl Fault for OrderFault {
+    ghost refusal = { order_refusal };
+
+    ghost reason = { order_reason };
+
+    fn refusal(&self) -> Refusal {
         match *self {
             OrderFault::Unknown => Refusal::of(5),
             OrderFault::NoneListed => Refusal::of(19),
             OrderFault::TooLong => Refusal::of(20),
         }
     }
-}
 
-impl OrderFault {
-    // What is wrong, in words.
-    fn reason(&self) -> &'static str
-        ensures { result.now ≡ order_reason self.now }
-    {
+    fn reason(&self) -> &'static str {
         match *self {
             OrderFault::Unknown => "there is no such card",
             OrderFault::NoneListed => "no card is listed",
@@ -43,8 +41,6 @@ impl fmt::Display for OrderFault {
     ghost output = { λ fault. Some (sentence (order_refusal fault) (order_reason fault)) };
 
     fn fmt<W: fmt::Write>(&self, f: &mut fmt::Formatter<W>) -> fmt::Result {
-        let refusal = self.refusal();
-        let reason = self.reason();
-        write!(f, "{refusal}: {reason}")
+        write_sentence(self, f)
     }
 }

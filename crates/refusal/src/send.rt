@@ -5,6 +5,7 @@ ghost use Rattle.refusal.specs.declared.send.PacketFault.TheVariants.{Route as P
 ghost use Rattle.refusal.specs.Refusals.{route_refusal, packet_refusal};
 
 use crate::answer::Refusal;
+use crate::fault::{Fault, write_sentence};
 use std::fmt;
 
 // A route that cannot be walked.
@@ -15,23 +16,20 @@ pub enum RouteFault {
     NoDaughter { card: u16 },
 }
 
-impl RouteFault {
-    pub fn refusal(&self) -> Refusal
-        ensures { result ≡ route_refusal self.now }
-    {
+impl Fault for RouteFault {
+    ghost refusal = { route_refusal };
+
+    ghost reason = { route_reason };
+
+    fn refusal(&self) -> Refusal {
         match *self {
             RouteFault::EndsGoingUp { card } => Refusal::at(9, usize::from(card)),
             RouteFault::AboveRoot => Refusal::at(10, 0),
             RouteFault::NoDaughter { card } => Refusal::at(11, usize::from(card)),
         }
     }
-}
 
-impl RouteFault {
-    // What is wrong, in words.
-    fn reason(&self) -> &'static str
-        ensures { result.now ≡ route_reason self.now }
-    {
+    fn reason(&self) -> &'static str {
         match *self {
             RouteFault::EndsGoingUp { .. } => "the route ends on the way up",
             RouteFault::AboveRoot => "the route climbs above card 0",
@@ -44,9 +42,7 @@ impl fmt::Display for RouteFault {
     ghost output = { λ fault. Some (sentence (route_refusal fault) (route_reason fault)) };
 
     fn fmt<W: fmt::Write>(&self, f: &mut fmt::Formatter<W>) -> fmt::Result {
-        let refusal = self.refusal();
-        let reason = self.reason();
-        write!(f, "{refusal}: {reason}")
+        write_sentence(self, f)
     }
 }
 
@@ -69,10 +65,12 @@ impl From<RouteFault> for PacketFault {
     }
 }
 
-impl PacketFault {
-    pub fn refusal(&self) -> Refusal
-        ensures { result ≡ packet_refusal self.now }
-    {
+impl Fault for PacketFault {
+    ghost refusal = { packet_refusal };
+
+    ghost reason = { packet_reason };
+
+    fn refusal(&self) -> Refusal {
         match *self {
             PacketFault::NoSender => Refusal::of(5),
             PacketFault::Length => Refusal::of(6),
@@ -82,13 +80,8 @@ impl PacketFault {
             PacketFault::QueueFull => Refusal::of(12),
         }
     }
-}
 
-impl PacketFault {
-    // What is wrong, in words.
-    fn reason(&self) -> &'static str
-        ensures { result.now ≡ packet_reason self.now }
-    {
+    fn reason(&self) -> &'static str {
         match *self {
             PacketFault::NoSender => "there is no such card",
             PacketFault::Length => "a packet has 2 to 64 words",
@@ -104,8 +97,6 @@ impl fmt::Display for PacketFault {
     ghost output = { λ fault. Some (sentence (packet_refusal fault) (packet_reason fault)) };
 
     fn fmt<W: fmt::Write>(&self, f: &mut fmt::Formatter<W>) -> fmt::Result {
-        let refusal = self.refusal();
-        let reason = self.reason();
-        write!(f, "{refusal}: {reason}")
+        write_sentence(self, f)
     }
 }

@@ -1,6 +1,6 @@
 // Rules, books and layers.
 use licence::{Book, KeyPattern, PatternRule, Policy, RangeRule, Span, Verdict, Withdrawal};
-use refusal::LicenceFault;
+use refusal::{Fault, LicenceFault};
 use std::test::Fail;
 
 // Does the policy answer each card and key with this class, 9 for 'refuse'?

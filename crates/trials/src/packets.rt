@@ -1,6 +1,6 @@
 // Worked examples of heads, packets and delivered words.
 use packet::*;
-use refusal::Refusal;
+use refusal::{Fault, Refusal};
 use std::test::Fail;
 
 #[test]

@@ -11,6 +11,11 @@ fn send() -> Result<u16, PacketFault> {
     Ok(card)
 }
 
+fn answer() -> Result<u16, Refusal> {
+    let card = climb()?;
+    Ok(card)
+}
+
 #[test]
 fn numbers_and_places(rt: HostRuntime) {
     let route = RouteFault::NoDaughter { card: 3 };
@@ -38,5 +43,15 @@ fn route_fault_becomes_packet_fault(rt: HostRuntime) -> Result<(), Fail> {
     );
     assert_eq!(rt; fault.refusal().number, 9);
     assert_eq!(rt; fault.refusal().place, Some(5));
+    Ok(())
+}
+
+#[test]
+fn route_fault_becomes_refusal(rt: HostRuntime) -> Result<(), Fail> {
+    let Err(Refusal { number, place }) = answer() else {
+        return Err(Fail::new("answered"));
+    };
+    assert_eq!(rt; number, 9);
+    assert_eq!(rt; place, Some(5));
     Ok(())
 }

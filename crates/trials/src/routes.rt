@@ -1,6 +1,6 @@
 // Worked examples of full trees, route orders and walks.
 use packet::{Mode, Route, Side};
-use refusal::Refusal;
+use refusal::{Fault, Refusal};
 use routing::*;
 use std::test::Fail;
 use wiring::{FullTree, Wiring};

@@ -1,5 +1,6 @@
 // A small deck on a tree of two levels: a targeted packet is queued, fired to its card, and its key word taken.
 use licence::{Book, Policy, RangeRule, Span, Verdict};
+use refusal::Fault;
 use router::Tree;
 use station::{Input, Station};
 use std::test::Fail;
