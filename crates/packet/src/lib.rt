@@ -14,7 +14,7 @@ pub use arrivals::Arrival;
 pub use delivered::Delivered;
 pub use heads::{Head, KeyWord, Mode};
 pub use packets::check;
-pub use routes::{Course, Route, Sides, routes_ending_going_up};
+pub use routes::{Course, Descents, Route, Sides, routes_ending_going_up};
 pub use sides::Side;
 pub use steps::{advance, floods, stops, top_bit};
 pub use words::Kind;

@@ -1,9 +1,11 @@
 // Routes, and what they ask for. The methods stand in the files below.
 ghost use Rattle.std.specs.Prelude.{◌^◌, ◌<◌, ◌≤◌};
 
+mod descending;
 mod reading;
 mod writing;
 
+pub use descending::Descents;
 pub use reading::routes_ending_going_up;
 
 // A route: nine bits, read from the highest down.
@@ -13,7 +15,7 @@ pub struct Route {
     ghost nine: { bits < 512 },
 }
 
-// The sides of a way down, at most seven: one bit for each, the first one highest.
+// The sides of a way down, at most seven: one bit for each, the first one highest. Bits and no Vec, since send uses no heap.
 #[derive(Clone, Copy)]
 pub struct Sides {
     bits: u16,

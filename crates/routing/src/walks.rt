@@ -31,18 +31,15 @@ fn climbed<W: Wiring>(wiring: &W, card: u16, ups: u16) -> Option<u16>
 }
 
 // The card that is reached from this one by these sides.
+#[tactic(auto, unfolding(crate::specs::Walks::descend))]
 fn descended<W: Wiring>(wiring: &W, card: u16, sides: Sides) -> Result<u16, RouteFault>
     ensures { result ≡ descend (W.shape wiring.now) (sides_in sides) card }
 {
     let mut at = card;
-    let mut left = sides;
-    while let Some(split) = left.split_first() {
-        let (side, rest) = split;
-        let Some(daughter) = wiring.daughter(at, side) else {
-            return Err(RouteFault::NoDaughter { card: at });
-        };
-        at = daughter;
-        left = rest;
+    for side in sides {
+        at = wiring
+            .daughter(at, side)
+            .ok_or(RouteFault::NoDaughter { card: at })?;
     }
     Ok(at)
 }
