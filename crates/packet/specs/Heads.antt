@@ -1,5 +1,5 @@
 -- Heads and key words, bit by bit.
-use Rattle.std.specs.Prelude.{ℕ, ◌+◌, ◌-◌, ◌*◌, ◌/◌, ◌%◌, ◌^◌, Bool, cond, ◌==◌}
+use Rattle.std.specs.Prelude.{ℕ, ◌+◌, ◌-◌, ◌*◌, ◌/◌, ◌%◌, ◌^◌, Bool, cond, ◌==◌, List, codes}
 use Rattle.packet.specs.declared.heads.Mode.{Mode}
 use Rattle.packet.specs.declared.heads.Mode.TheVariants.{Target, Flood}
 use Rattle.packet.specs.declared.heads.KeyWord.{KeyWord}
@@ -13,6 +13,11 @@ floods h = bit 29 h
 -- bit 29 of a head: 1 floods, 0 targets
 abbrev pub mode_of : ℕ → Mode
 mode_of h = cond (bit 29 h) Flood Target
+
+-- how a mode is printed
+abbrev pub mode_name : Mode → List ℕ
+mode_name Target = codes "target"
+mode_name Flood = codes "flood"
 
 abbrev pub mode_bit : Mode → ℕ
 mode_bit Target = 0

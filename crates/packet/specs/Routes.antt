@@ -1,5 +1,5 @@
 -- How a route is read: leading 1s climb, the first 0 turns, each bit after it descends, the last 1 stops.
-use Rattle.std.specs.Prelude.{ℕ, zero, suc, ◌+◌, ◌-◌, ◌*◌, ◌/◌, ◌%◌, ◌^◌, Bool, true, false, cond, ◌||◌, List, [], ◌∷◌, ◌++◌, map, length, is_some, Some, None, Option, ◌==◌, nat_le}
+use Rattle.std.specs.Prelude.{ℕ, zero, suc, ◌+◌, ◌-◌, ◌*◌, ◌/◌, ◌%◌, ◌^◌, Bool, true, false, cond, ◌||◌, List, [], ◌∷◌, ◌++◌, map, length, is_some, Some, None, Option, ◌==◌, nat_le, codes}
 use Rattle.packet.specs.declared.sides.Side.{Side}
 use Rattle.packet.specs.declared.sides.Side.TheVariants.{Left, Right}
 use Rattle.packet.specs.Words.{bit}
@@ -45,6 +45,11 @@ route_in w = w % 2 ^ route_width
 abbrev pub side_of : Bool → Side
 side_of false = Left
 side_of true = Right
+
+-- how a side is printed
+abbrev pub side_letter : Side → List ℕ
+side_letter Left = codes "L"
+side_letter Right = codes "R"
 
 -- is there a 1 among the bits
 unfoldable pub has_one : List Bool → Bool

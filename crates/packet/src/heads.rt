@@ -1,15 +1,27 @@
 // Heads and key words, read into their fields and written again.
-ghost use Rattle.std.specs.Prelude.{◌≡◌};
+ghost use Rattle.std.specs.Prelude.{◌≡◌, Some};
 ghost use Rattle.packet.specs.Routes.{route_in};
-ghost use Rattle.packet.specs.Heads.{mode_of, head_word, key_word_of, stamped};
+ghost use Rattle.packet.specs.Heads.{mode_of, mode_name, head_word, key_word_of, stamped};
 
 use crate::routes::Route;
+use std::fmt;
 
 // A packet goes to one card, or floods a card and all cards below it.
 #[derive(Clone, Copy)]
 pub enum Mode {
     Target,
     Flood,
+}
+
+impl fmt::Display for Mode {
+    ghost output = { λ mode. Some (mode_name mode) };
+
+    fn fmt<W: fmt::Write>(&self, f: &mut fmt::Formatter<W>) -> fmt::Result {
+        f.write_str(match self {
+            Mode::Target => "target",
+            Mode::Flood => "flood",
+        })
+    }
 }
 
 // The first word of a packet.

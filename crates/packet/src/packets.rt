@@ -39,7 +39,7 @@ fn later_fault(place: usize, words: &[u32]) -> Option<usize>
 fn is_head(word: u32) -> bool
     ensures { result ≡ is_head (kind_of word) }
 {
-    matches!(Kind::of(word), Kind::Head)
+    Kind::of(word) == Kind::Head
 }
 
 // The place of the first word of the wrong kind.

@@ -1,6 +1,6 @@
 // A plan as a person reads it.
 use crate::plans::Plan;
-use packet::{Mode, Route, Side};
+use packet::Route;
 use std::fmt;
 
 // The letters of a route: U for each link up, D for the turn, L or R for each descent, S for the stop.
@@ -16,17 +16,8 @@ impl fmt::Display for Letters {
             f.write_str("U")?;
         }
         f.write_str("D")?;
-        let mut left = course.sides;
-        for _ in 0..course.sides.count() {
-            let Some(split) = left.split_first() else {
-                break;
-            };
-            let (side, rest) = split;
-            f.write_str(match side {
-                Side::Left => "L",
-                Side::Right => "R",
-            })?;
-            left = rest;
+        for side in course.sides {
+            write!(f, "{side}")?;
         }
         f.write_str("S")
     }
@@ -43,10 +34,7 @@ impl fmt::Display for Plan {
         let terminus = walk.terminus;
         let reached = self.reached;
         let hops = self.hops;
-        let mode = match self.head.mode {
-            Mode::Target => "target",
-            Mode::Flood => "flood",
-        };
+        let mode = self.head.mode;
         write!(
             f,
             "head {head:08x}, route {letters}, {ups} up to card {turn}, {descents} down to card {terminus}, "
