@@ -1,4 +1,5 @@
 // Worked examples of full trees, route orders and walks.
+use crate::answers::number_of;
 use packet::{Mode, Route, Side};
 use refusal::{Fault, Refusal};
 use routing::*;
@@ -6,18 +7,7 @@ use std::test::Fail;
 use wiring::{FullTree, Wiring};
 
 fn full(levels: u16) -> Result<FullTree, Fail> {
-    match FullTree::new(levels) {
-        Ok(tree) => Ok(tree),
-        Err(_) => Err(Fail::new("no such full tree")),
-    }
-}
-
-// The number by which a full tree is refused, 0 where it is granted.
-fn refused_by(levels: u16) -> u8 {
-    match FullTree::new(levels) {
-        Ok(_) => 0,
-        Err(fault) => fault.refusal().number,
-    }
+    FullTree::new(levels).map_err(|_| Fail::new("no such full tree"))
 }
 
 // The parent of a card, and whether the card is the right daughter.
@@ -28,8 +18,8 @@ fn above(tree: &FullTree, card: u16) -> Option<(u16, bool)> {
 
 #[test]
 fn full_trees(rt: HostRuntime) -> Result<(), Fail> {
-    assert_eq!(rt; refused_by(0), 1);
-    assert_eq!(rt; refused_by(6), 1);
+    assert_eq!(rt; number_of(FullTree::new(0)), Some(1));
+    assert_eq!(rt; number_of(FullTree::new(6)), Some(1));
     let tree = full(5)?;
     assert_eq!(rt; tree.cards(), 31);
     assert_eq!(rt; tree.daughter(0, Side::Left), Some(1));
@@ -77,7 +67,7 @@ fn walked(tree: &FullTree, card: u16, route: u32) -> Result<(u16, u16, u64), (u8
             path_hops(tree, Mode::Flood, &walk, 4),
         )),
         Err(fault) => {
-            let Refusal { number, place } = fault.refusal();
+            let Refusal { number, place } = fault.into();
             Err((number, place))
         }
     }

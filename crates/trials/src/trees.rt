@@ -6,17 +6,15 @@ use station::{Input, Station};
 use std::test::Fail;
 use wiring::{FullTree, Wiring};
 
-// The outputs of a fire, or 100 and its refusal's number.
+// The outputs of a fire, or its refusal's number.
 fn fire<W: Wiring, P: Policy>(
     tree: &mut Tree<W, P>,
     card: u16,
     station: Station,
     input: Input,
-) -> u8 {
-    match tree.fire(card, station, input) {
-        Ok(sum) => sum,
-        Err(fault) => 100 + fault.refusal().number % 100,
-    }
+) -> Result<u8, u8> {
+    tree.fire(card, station, input)
+        .map_err(|fault| fault.refusal().number)
 }
 
 #[test]
@@ -44,15 +42,15 @@ fn a_packet_is_carried(rt: HostRuntime) -> Result<(), Fail> {
             .is_ok()
     );
     assert_eq!(rt; tree.owed(), 6);
-    assert_eq!(rt; fire(&mut tree, 1, Station::Up, Input::Queue), 2);
-    assert_eq!(rt; fire(&mut tree, 1, Station::Down, Input::Turn), 0);
-    assert_eq!(rt; fire(&mut tree, 1, Station::Up, Input::Queue), 2);
-    assert_eq!(rt; fire(&mut tree, 1, Station::Down, Input::Turn), 16);
+    assert_eq!(rt; fire(&mut tree, 1, Station::Up, Input::Queue), Ok(2));
+    assert_eq!(rt; fire(&mut tree, 1, Station::Down, Input::Turn), Ok(0));
+    assert_eq!(rt; fire(&mut tree, 1, Station::Up, Input::Queue), Ok(2));
+    assert_eq!(rt; fire(&mut tree, 1, Station::Down, Input::Turn), Ok(16));
     match tree.take(1) {
         Ok(word) => assert_eq!(rt; word, 0x11),
         Err(_) => return Err(Fail::new("nothing to take")),
     }
-    assert_eq!(rt; fire(&mut tree, 1, Station::Down, Input::Turn), 114);
+    assert_eq!(rt; fire(&mut tree, 1, Station::Down, Input::Turn), Err(14));
     assert_eq!(rt; tree.owed(), 2);
     Ok(())
 }
