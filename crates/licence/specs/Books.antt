@@ -1,6 +1,7 @@
 -- The book: a list of rules of one kind.
-use Rattle.std.specs.Prelude.{◌≡◌, ℕ, ◌<◌, Bool, true, false, cond, List, [], ◌∷◌, length, Some, Ok, Err, Result, nat_le}
-use Rattle.std.specs.List.{slice_get}
+use Rattle.std.specs.Prelude.{◌≡◌, ℕ, ◌<◌, Bool, true, false, cond, List, length, Some, Ok, Err, Result, nat_le}
+use Rattle.std.specs.List.{slice_get, find}
+use Rattle.std.specs.Option.{option_map_or}
 use Rattle.licence.specs.declared.books.Book.{Book}
 use Rattle.refusal.specs.declared.build.LicenceFault.{LicenceFault}
 use Rattle.refusal.specs.declared.build.LicenceFault.TheVariants.{TooManyRules}
@@ -13,8 +14,7 @@ most_rules = 64
 
 -- the first rule that covers this card and key decides; where none does, the verdict is 'refuse'
 abbrev pub first_of : {R : Type 0} → (R → ℕ → ℕ → Bool) → (R → Verdict) → List R → ℕ → ℕ → Verdict
-first_of covers carried [] card key = Refuse
-first_of covers carried (rule ∷ rules) card key = cond (covers rule card key) (carried rule) (first_of covers carried rules card key)
+first_of covers carried rules card key = option_map_or carried (find (λ rule. covers rule card key) rules) Refuse
 
 -- the book of these rules, or why there is none
 abbrev pub book_of : {R : Type 0} → List R → Result (List R) LicenceFault

@@ -1,5 +1,6 @@
 pub mod Verdicts
 pub mod Granted
+pub mod Rules
 pub mod Ranges
 pub mod Patterns
 pub mod Books

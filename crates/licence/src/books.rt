@@ -30,27 +30,17 @@ impl<'a, R: Rule> Book<'a, R> {
 }
 
 impl<'a, R: Rule> Policy for Book<'a, R> {
-    ghost verdict = { λ s card key. first_of R.Rule.covering R.Rule.ruling (rules_in s) card key };
+    ghost verdict = { λ s card key. first_of R.covering R.ruling (rules_in s) card key };
 
     ghost classed = { λ s. first_known R.covering R.ruling R.classed (rules_in s) };
 
     fn ask(&self, card: u16, key: u8) -> Verdict
-        ensures meaning { result ≡ first_of R.Rule.covering R.Rule.ruling (rules_in self.now) card key }
-        ensures decided { Decided R.Rule.covering R.Rule.ruling (rules_in self.now) card key result }
+        ensures meaning { result ≡ first_of R.covering R.ruling (rules_in self.now) card key }
+        ensures decided { Decided R.covering R.ruling (rules_in self.now) card key result }
     {
-        first_verdict(self.rules, card, key)
+        self.rules
+            .iter()
+            .find(|rule| rule.covers(card, key))
+            .map_or(Verdict::Refuse, |rule| rule.verdict())
     }
-}
-
-// What the first rule that covers this card and key says; where none does, 'refuse'.
-fn first_verdict<R: Rule>(rules: &[R], card: u16, key: u8) -> Verdict
-    ensures meaning { result ≡ first_of R.Rule.covering R.Rule.ruling rules.now card key }
-    ensures decided { Decided R.Rule.covering R.Rule.ruling rules.now card key result }
-{
-    for rule in rules {
-        if rule.covers(card, key) {
-            return rule.verdict();
-        }
-    }
-    Verdict::Refuse
 }

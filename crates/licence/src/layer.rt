@@ -1,15 +1,74 @@
-ghost use Rattle.std.specs.Prelude.{◌≡◌, length};
-ghost use Rattle.licence.specs.Keys.{all_keys};
+// The layer of withdrawn keys.
+ghost use Rattle.std.specs.Prelude.{◌≡◌, true, false};
+ghost use Rattle.licence.specs.Layers.{fresh, marked, layer_in, withdrawn_in, layered};
+ghost use Rattle.std.proofs.Common.{rules};
 
-mod calls;
+use crate::policy::Policy;
+use crate::verdict::Verdict;
 
 // How many keys there are.
 const KEYS: usize = 256;
 
-// A policy over another: it refuses the keys that are withdrawn, and leaves the others to the policy below.
+// A policy over another: it refuses the keys that are withdrawn, and leaves the others to the policy below. An array of marks, not a set: no heap.
 #[derive(Drop)]
 pub struct Withdrawal<P> {
     policy: P,
     withdrawn: [bool; KEYS],
-    ghost whole: { length withdrawn ≡ all_keys },
+}
+
+impl<P: Policy> Withdrawal<P> {
+    // The layer over a policy, with no key withdrawn.
+    pub fn over(policy: P) -> Withdrawal<P>
+        ensures { layer_in result ≡ fresh policy }
+    {
+        Withdrawal {
+            policy,
+            withdrawn: [false; KEYS],
+        }
+    }
+
+    // Refuses the key from now on.
+    pub fn withdraw(&mut self, key: u8)
+        ensures next { layer_in self.new ≡ marked (layer_in self.old) key true }
+        ensures again { withdrawn_in self.old key ≡ true → layer_in self.new ≡ layer_in self.old }
+    {
+        self.set_mark(key, true);
+    }
+
+    // Leaves the key to the policy below again.
+    pub fn restore(&mut self, key: u8)
+        ensures next { layer_in self.new ≡ marked (layer_in self.old) key false }
+        ensures again { withdrawn_in self.old key ≡ false → layer_in self.new ≡ layer_in self.old }
+    {
+        self.set_mark(key, false);
+    }
+
+    // Writes whether the key is withdrawn.
+    fn set_mark(&mut self, key: u8, mark: bool)
+        ensures next { layer_in self.new ≡ marked (layer_in self.old) key mark }
+        ensures again { withdrawn_in self.old key ≡ mark → layer_in self.new ≡ layer_in self.old }
+    {
+        let place = usize::from(key);
+        self.withdrawn[place] = mark;
+    }
+
+    // Is the key withdrawn in this layer?
+    pub fn is_withdrawn(&self, key: u8) -> bool
+        ensures { result ≡ withdrawn_in self.now key }
+    {
+        self.withdrawn[usize::from(key)]
+    }
+}
+
+impl<P: Policy> Policy for Withdrawal<P> {
+    ghost verdict = { layered P.verdict };
+
+    ghost classed = { Prim.search rules };
+
+    fn ask(&self, card: u16, key: u8) -> Verdict {
+        if self.is_withdrawn(key) {
+            return Verdict::Refuse;
+        }
+        self.policy.ask(card, key)
+    }
 }

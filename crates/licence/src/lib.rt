@@ -3,16 +3,16 @@
 
 mod books;
 mod layer;
-mod pattern;
 mod policy;
-mod range;
 mod rule;
+mod set_rule;
+mod sets;
 mod verdict;
 
 pub use books::Book;
 pub use layer::Withdrawal;
-pub use pattern::{KeyPattern, PatternRule};
 pub use policy::Policy;
-pub use range::{RangeRule, Span};
 pub use rule::Rule;
+pub use set_rule::{PatternRule, RangeRule, SetRule};
+pub use sets::{CardSet, KeyPattern, Set, Span};
 pub use verdict::Verdict;
