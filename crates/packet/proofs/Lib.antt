@@ -3,5 +3,4 @@ pub mod Moving
 pub mod Reading
 pub mod Writing
 pub mod Checking
-pub mod Scanning
 pub mod Rewritten

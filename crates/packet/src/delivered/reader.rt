@@ -1,25 +1,25 @@
 // The next packet of the words that were delivered.
-ghost use Rattle.std.specs.Prelude.{◌≡◌, ℕ, ◌+◌, ◌^◌, ◌<◌, ◌≤◌, length, Some};
-ghost use Rattle.packet.specs.Deliveries.{first_from, packet_in, next_packet, place_after, arrival_told};
+ghost use Rattle.std.specs.Prelude.{◌≡◌, ◌+◌, ◌^◌, ◌<◌, ◌≤◌, length, position};
+ghost use Rattle.packet.specs.Deliveries.{ends, unfit, packet_in, next_packet, place_after, arrival_told};
 
 use super::Delivered;
-use crate::arrivals::{Arrival, Mark};
+use crate::arrivals::Arrival;
 use crate::heads::KeyWord;
 use crate::words::Kind;
 use refusal::DeliveryFault;
 
-// The place of the first word that bears the mark, the first word being at place `base`.
-fn first(words: &[u32], base: usize, mark: Mark) -> Option<usize>
-    requires { base + length words.now < 2 ^ 64 }
-    ensures value { result ≡ first_from mark base words.now }
-    ensures within { (t : ℕ) → result ≡ Some t → (base ≤ t) × (t < base + length words.now) }
+// Where the first tail stands.
+fn first_tail(words: &[u32]) -> Option<usize>
+    ensures { result ≡ position ends words.now }
 {
-    for (i, word) in words.iter().enumerate() {
-        if mark.is_on(Kind::of(*word)) {
-            return Some(base + i);
-        }
-    }
-    None
+    words.iter().position(|word| Kind::of(*word) == Kind::Tail)
+}
+
+// Where the first word stands that is never delivered.
+fn first_unfit(words: &[u32]) -> Option<usize>
+    ensures { result ≡ position unfit words.now }
+{
+    words.iter().position(|word| matches!(Kind::of(*word), Kind::Head | Kind::Unused))
 }
 
 // The packet of these words, the first of them at this place.
@@ -27,8 +27,8 @@ fn packet_in<'a>(words: &'a [u32], place: usize) -> Result<Option<Arrival<'a>>, 
     requires { (0 < length words.now) × (place + length words.now < 2 ^ 64) }
     ensures { arrival_told result ≡ packet_in words.now place }
 {
-    if let Some(place) = first(words, place, Mark::Unfit) {
-        return Err(DeliveryFault::WrongKind { place });
+    if let Some(i) = first_unfit(words) {
+        return Err(DeliveryFault::WrongKind { place: place + i });
     }
     let key_word = words[0];
     if key_word / 0x100 % 0x10_0000 != 0 {
@@ -50,10 +50,10 @@ fn next_at<'a>(words: &'a [u32], place: usize) -> Result<Option<Arrival<'a>>, De
     ensures within { place_after place (arrival_told result) ≤ length words.now }
 {
     let left = &words[place..];
-    let Some(tail) = first(left, place, Mark::Ends) else {
+    let Some(tail) = first_tail(left) else {
         return Ok(None);
     };
-    packet_in(&left[0..tail + 1 - place], place)
+    packet_in(&left[..=tail], place)
 }
 
 impl<'a> Delivered<'a> {
@@ -73,15 +73,15 @@ impl<'a> Delivered<'a> {
     }
 
     // The next packet, or none where no tail is left. A refusal leaves the reader where it stands.
+    // No Iterator: past a refusal its items would have no end, each the same refusal.
     pub fn next(&mut self) -> Result<Option<Arrival<'a>>, DeliveryFault>
         ensures value { arrival_told result ≡ next_packet self.old.words.now self.old.place }
         ensures place { self.new.place ≡ place_after self.old.place (arrival_told result) }
         ensures words { self.new.words.now ≡ self.old.words.now }
     {
         let next = next_at(self.words, self.place)?;
-        match next {
-            Some(arrival) => self.place += arrival.words.len(),
-            None => {}
+        if let Some(arrival) = next {
+            self.place += arrival.words.len();
         }
         Ok(next)
     }
