@@ -1,62 +1,38 @@
 // The check of a packet as it is sent: its length, the kinds of its words, its reserved bits.
-ghost use Rattle.std.specs.Prelude.{◌≡◌, ◌+◌, ◌^◌, ◌<◌, ◌≤◌, ◌∷◌, length};
+ghost use Rattle.std.specs.Prelude.{◌≡◌, ◌==◌, ◌≤◌, cond, length, drop, slice_index};
 ghost use Rattle.packet.specs.Words.{kind_of};
-ghost use Rattle.packet.specs.Packets.{is_head, right_kind, later_fault, kind_fault, reserved_fault, check_packet, header_told};
+ghost use Rattle.packet.specs.Packets.{is_head, right_kind, kind_fault, reserved_fault, check_packet, header_told};
 
 use crate::heads::Head;
 use crate::words::Kind;
 use refusal::PacketFault;
 
-// After the head, the last word is a tail, and any other a body.
-fn right_kind(last: bool, word: u32) -> bool
-    ensures { result ≡ right_kind last (kind_of word) }
+// A head comes first, a tail last, and bodies between them.
+fn right_kind(place: usize, last: usize, word: u32) -> bool
+    ensures { result ≡ cond (place == 0) (is_head (kind_of word)) (right_kind (place == last) (kind_of word)) }
 {
-    match Kind::of(word) {
-        Kind::Body => !last,
-        Kind::Tail => last,
-        Kind::Head | Kind::Unused => false,
+    let kind = Kind::of(word);
+    match place {
+        0 => kind == Kind::Head,
+        _ if place == last => kind == Kind::Tail,
+        _ => kind == Kind::Body,
     }
-}
-
-// The place of the first word of the wrong kind among those after the head: bodies, then a tail.
-fn later_fault(place: usize, words: &[u32]) -> Option<usize>
-    requires { place + length words.now < 2 ^ 16 }
-    ensures { result ≡ later_fault place words.now }
-{
-    match words {
-        [] => None,
-        [word, rest @ ..] => {
-            if right_kind(rest.is_empty(), *word) {
-                later_fault(place + 1, rest)
-            } else {
-                Some(place)
-            }
-        }
-    }
-}
-
-// A head has kind 2.
-fn is_head(word: u32) -> bool
-    ensures { result ≡ is_head (kind_of word) }
-{
-    Kind::of(word) == Kind::Head
 }
 
 // The place of the first word of the wrong kind.
-fn kind_fault(head: u32, key: u32, rest: &[u32]) -> Option<usize>
-    requires { length rest.now ≤ 62 }
-    ensures { result ≡ kind_fault head (key ∷ rest.now) }
+fn kind_fault(packet: &[u32]) -> Option<usize>
+    requires { 2 ≤ length packet.now }
+    ensures { result ≡ kind_fault (slice_index packet.now 0) (drop 1 packet.now) }
 {
-    if !is_head(head) {
-        return Some(0);
-    }
-    if !right_kind(rest.is_empty(), key) {
-        return Some(1);
-    }
-    later_fault(2, rest)
+    let last = packet.len() - 1;
+    packet
+        .iter()
+        .enumerate()
+        .position(|(place, word)| !right_kind(place, last, *word))
 }
 
 // The place of the first of head and key word with a reserved bit set.
+#[tactic(auto, unfolding(crate::specs::Packets::reserved_fault))]
 fn reserved_fault(head: u32, key: u32) -> Option<usize>
     ensures { result ≡ reserved_fault head key }
 {
@@ -73,13 +49,13 @@ fn reserved_fault(head: u32, key: u32) -> Option<usize>
 pub fn check(packet: &[u32]) -> Result<Head, PacketFault>
     ensures { header_told result ≡ check_packet packet.now }
 {
-    let [head, key, rest @ ..] = packet else {
+    let [head, key, ..] = packet else {
         return Err(PacketFault::Length);
     };
-    if rest.len() > 62 {
+    if packet.len() > 64 {
         return Err(PacketFault::Length);
     }
-    if let Some(place) = kind_fault(*head, *key, rest) {
+    if let Some(place) = kind_fault(packet) {
         return Err(PacketFault::Kinds { place });
     }
     if let Some(place) = reserved_fault(*head, *key) {
