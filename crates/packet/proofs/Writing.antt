@@ -183,6 +183,8 @@ reads a c b l m =
     let n = sides_length c b in
     ap (λ (r : ℕ). read_bits (bits_from 9 r)) (written a c b l m) ∙ reads_back 9 a (map side_of (bits_from c b)) (omega arith)
 
+pub ruleset route_summed = (writes, writes_none, reads, written, route_below)
+
 -- one more side in front
 pub left_front : (k b : ℕ) → b < 2 ^ k → (b < 2 ^ (k + 1)) × (map side_of (bits_from (k + 1) b) ≡ Left ∷ map side_of (bits_from k b))
 left_front k b l =
@@ -203,6 +205,8 @@ has_room s k b l = let n = sides_length k b in rw (lt-ltb (length (map side_of (
 
 pub no_room : (s : Side) (k b : ℕ) → 7 ≤ k → sides_before s (map side_of (bits_from k b)) ≡ None
 no_room s k b l = let n = sides_length k b in rw (le-ltb (length (map side_of (bits_from k b))) 7 (omega arith))
+
+pub ruleset side_in_front = (left_front, right_front, has_room, no_room)
 
 -- the first side and the others
 pub split_none : (k b : ℕ) → k ≡ 0 → None ≡ split_sides (map side_of (bits_from k b))

@@ -4,6 +4,7 @@ ghost use Rattle.packet.specs.Routes.{top_bit, stops, advance};
 ghost use Rattle.packet.specs.Heads.{floods};
 
 // The bit of a head's route that is read next.
+#[tactic(auto, unfolding(crate::specs::Routes::top_bit))]
 pub fn top_bit(head: u32) -> bool
     ensures { result ≡ top_bit head }
 {
@@ -11,6 +12,7 @@ pub fn top_bit(head: u32) -> bool
 }
 
 // No 1 is left in the route once it is moved up.
+#[tactic(auto, using(crate::proofs::Moving::none_below), unfolding(crate::specs::Routes::stops))]
 pub fn stops(head: u32) -> bool
     ensures { result ≡ stops head }
 {
@@ -18,6 +20,7 @@ pub fn stops(head: u32) -> bool
 }
 
 // The head with its route moved up one bit.
+#[tactic(auto, unfolding(crate::specs::Routes::advance, crate::specs::Routes::shifted))]
 pub fn advance(head: u32) -> u32
     ensures { result ≡ advance head }
 {
@@ -25,6 +28,7 @@ pub fn advance(head: u32) -> u32
 }
 
 // The head's mode is flood.
+#[tactic(auto, unfolding(crate::specs::Heads::floods))]
 pub fn floods(head: u32) -> bool
     ensures { result ≡ floods head }
 {

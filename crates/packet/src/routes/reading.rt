@@ -23,12 +23,22 @@ impl Route {
     }
 
     // What the route asks for, or none where it ends on the way up.
+    #[tactic(auto, unfolding(crate::specs::Routes::read_route, crate::specs::Routes::read_bits))]
     pub fn course(self) -> Option<Course>
         ensures { course_told result ≡ read_route self.bits }
     {
-        let ups = leading_ones(self.bits);
+        let ups = self.ups();
         let sides = sides_before_stop(self.bits, 8u16.saturating_sub(ups))?;
         Some(Course { ups, sides })
+    }
+
+    // How many 1s stand before the first 0, the turn: the nine bits are moved to the top of sixteen.
+    #[tactic(auto, using(crate::proofs::Reading::route_read), unfolding(crate::specs::Routes::route_bits))]
+    fn ups(self) -> u16
+        ensures value { result ≡ ups_of (route_bits self.bits) }
+        ensures below { after_turn (route_bits self.bits) ≡ bits_from (8 - result) self.bits }
+    {
+        (self.bits << 7).leading_ones() as u16
     }
 }
 
@@ -41,34 +51,19 @@ pub fn routes_ending_going_up() -> [u16; 10]
     ]
 }
 
-// How many 1s stand before the first 0, the turn.
-fn leading_ones(bits: u16) -> u16
-    ensures value { result ≡ ups_of (route_bits bits) }
-    ensures below { after_turn (route_bits bits) ≡ bits_from (8 - result) bits }
-{
-    let mut ups = 0;
-    while ups < 9 && (bits >> (8 - ups)) % 2 == 1 {
-        ups += 1;
-    }
-    ups
-}
-
 // The sides that the low k bits name before their last 1, if they have one.
+#[tactic(auto, using(crate::proofs::Reading::stop_none, crate::proofs::Reading::stop_found))]
 fn sides_before_stop(bits: u16, k: u16) -> Option<Sides>
     requires { k ≤ 8 }
     ensures { sides_told result ≡ stopped (bits_from k bits) }
 {
-    let mut low = bits % (1 << k);
+    let low = bits % (1 << k);
     if low == 0 {
         return None;
     }
-    let mut count = k;
-    while low % 2 == 0 {
-        low /= 2;
-        count -= 1;
-    }
+    let stop = low.trailing_zeros() as u16;
     Some(Sides {
-        bits: low / 2,
-        count: count - 1,
+        bits: low >> (stop + 1),
+        count: k - 1 - stop,
     })
 }

@@ -8,6 +8,7 @@ use crate::sides::{Side, side_at};
 
 impl Sides {
     // No descent at all.
+    #[tactic(auto, unfolding(crate::specs::Routes::bits_from))]
     pub fn none() -> Sides
         ensures { sides_in result ≡ [] }
     {
@@ -15,6 +16,7 @@ impl Sides {
     }
 
     // How many descents.
+    #[tactic(auto, using(crate::proofs::Writing::sides_length))]
     pub fn count(self) -> u16
         ensures { result ≡ length (sides_in self) }
     {
@@ -22,6 +24,7 @@ impl Sides {
     }
 
     // The first side and the others, or none where there is none.
+    #[tactic(auto, using(crate::proofs::Writing::split_none, crate::proofs::Writing::split_some))]
     pub fn split_first(self) -> Option<(Side, Sides)>
         ensures { split_told result ≡ split_sides (sides_in self) }
     {
@@ -37,6 +40,7 @@ impl Sides {
     }
 
     // These sides after another one, or none where a route has no bit for it.
+    #[tactic(auto, using(crate::proofs::Writing::side_in_front))]
     pub fn after(self, side: Side) -> Option<Sides>
         ensures { sides_told result ≡ sides_before side (sides_in self) }
     {
@@ -56,6 +60,7 @@ impl Sides {
 
 impl Course {
     // The route that asks for this, or none where its nine bits do not suffice.
+    #[tactic(auto, using(crate::proofs::Writing::route_summed))]
     pub fn route(self) -> Option<Route>
         ensures value { route_told result ≡ write_route (course_of self) }
         ensures back { (x : Route) → result ≡ Some x → read_route x.bits ≡ Some (course_of self) }
