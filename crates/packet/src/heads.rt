@@ -32,7 +32,7 @@ pub struct Head {
 }
 
 impl Head {
-    // The mode and the route of a head.
+    // The mode and the route of a head. Its other bits are dropped, so this is no From.
     pub fn read(word: u32) -> Head
         ensures mode { result.mode ≡ mode_of word }
         ensures route { result.route.bits ≡ route_in word }
@@ -47,16 +47,18 @@ impl Head {
             route: Route::low(word),
         }
     }
+}
 
-    // The head as a word.
-    pub fn word(self) -> u32
-        ensures { result ≡ head_word self.mode self.route.bits }
-    {
-        let mode = match self.mode {
+// The head as a word.
+impl From<Head> for u32 {
+    ghost from_gives = { λ head word. word ≡ head_word head.mode head.route.bits };
+
+    fn from(head: Head) -> u32 {
+        let mode = match head.mode {
             Mode::Target => 0,
             Mode::Flood => 0x2000_0000,
         };
-        0x8000_0000 + mode + u32::from(self.route.bits())
+        0x8000_0000 + mode + u32::from(u16::from(head.route))
     }
 }
 
@@ -68,7 +70,7 @@ pub struct KeyWord {
 }
 
 impl KeyWord {
-    // The class and the key of a key word.
+    // The class and the key of a key word. Its other bits are dropped, so this is no From.
     pub fn read(word: u32) -> KeyWord
         ensures { result ≡ key_word_of word }
     {

@@ -12,7 +12,7 @@ pub enum Kind {
 }
 
 impl Kind {
-    // The kind of a word, from its bits 31 and 30.
+    // The kind of a word, from its bits 31 and 30. The others are dropped, so this is no From.
     pub fn of(word: u32) -> Kind
         ensures { result ≡ kind_of word }
     {

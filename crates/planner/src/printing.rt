@@ -25,7 +25,7 @@ impl fmt::Display for Letters {
 
 impl fmt::Display for Plan {
     fn fmt<W: fmt::Write>(&self, f: &mut fmt::Formatter<W>) -> fmt::Result {
-        let head = self.head.word();
+        let head = u32::from(self.head);
         let letters = Letters(self.head.route);
         let walk = self.walk;
         let ups = walk.ups;

@@ -20,8 +20,8 @@ fn two_up_then_right(rt: HostRuntime) -> Result<(), Fail> {
     let Some(route) = course.route() else {
         return Err(Fail::new("no route"));
     };
-    assert_eq!(rt; route.bits(), 0x1b0);
-    assert_eq!(rt; head.word(), 0xa000_01b0);
+    assert_eq!(rt; u16::from(route), 0x1b0);
+    assert_eq!(rt; u32::from(head), 0xa000_01b0);
     Ok(())
 }
 

@@ -37,7 +37,7 @@ fn full_trees(rt: HostRuntime) -> Result<(), Fail> {
 // The head of an order as a word, or the number of its refusal.
 fn ordered(tree: &FullTree, sender: u16, cards: &[u16]) -> Result<u32, u8> {
     match order(tree, sender, cards) {
-        Ok(head) => Ok(head.word()),
+        Ok(head) => Ok(u32::from(head)),
         Err(fault) => Err(fault.refusal().number),
     }
 }

@@ -6,20 +6,13 @@ ghost use Rattle.packet.specs.Courses.{sides_told, course_told};
 use super::{Course, Route, Sides};
 
 impl Route {
-    // The route in the low nine bits of a word.
+    // The route in the low nine bits of a word. The others are dropped, so this is no From.
     pub fn low(word: u32) -> Route
         ensures { result.bits ≡ route_in word }
     {
         Route {
             bits: (word % 512) as u16,
         }
-    }
-
-    // The nine bits as a number.
-    pub fn bits(self) -> u16
-        ensures { result ≡ self.bits }
-    {
-        self.bits
     }
 
     // What the route asks for, or none where it ends on the way up.
@@ -39,6 +32,15 @@ impl Route {
         ensures below { after_turn (route_bits self.bits) ≡ bits_from (8 - result) self.bits }
     {
         (self.bits << 7).leading_ones() as u16
+    }
+}
+
+// The nine bits as a number.
+impl From<Route> for u16 {
+    ghost from_gives = { λ route bits. bits ≡ route.bits };
+
+    fn from(route: Route) -> u16 {
+        route.bits
     }
 }
 
