@@ -6,10 +6,10 @@ ghost use Rattle.planner.specs.Lines.{entry_of, read_all, tree_of, tabled, frame
 ghost use Rattle.std.proofs.Common.{rules};
 
 use crate::faults::PlanFault;
-use crate::reading::read_all;
+use crate::reading::{entry, read_all};
 use packet::Side;
 use std::alloc::Global;
-use text::{Fields, same};
+use text::{Fields, decimal};
 use wiring::{FullTree, WiredTree, Wiring};
 
 // A wiring of either kind.
@@ -47,13 +47,10 @@ impl Wiring for Cabinet {
 }
 
 // `tree` and the number of levels.
-fn full_tree(fields: Fields) -> Result<Cabinet, PlanFault>
+fn full_tree(mut fields: Fields) -> Result<Cabinet, PlanFault>
     ensures { FrameAnswered (tree_of (fields_left fields.entry)) (cabinet_told result) }
 {
-    let mut fields = fields;
-    let Some(levels) = fields.decimal() else {
-        return Err(PlanFault::NotUnderstood);
-    };
+    let levels = fields.read(decimal).ok_or(PlanFault::NotUnderstood)?;
     if !fields.is_done() {
         return Err(PlanFault::NotUnderstood);
     }
@@ -64,10 +61,8 @@ fn full_tree(fields: Fields) -> Result<Cabinet, PlanFault>
 fn wired_tree(heap: Global, fields: Fields) -> Result<Cabinet, PlanFault>
     ensures { FrameAnswered (tabled (read_all entry_of (fields_left fields.entry))) (cabinet_told result) }
 {
-    let Some(table) = read_all::<u8>(heap, fields)? else {
-        return Err(PlanFault::NotUnderstood);
-    };
-    Ok(Cabinet::Wired(WiredTree::new(table.as_slice())?))
+    let table = read_all(heap, fields, entry)?;
+    Ok(Cabinet::Wired(WiredTree::new(&table)?))
 }
 
 // The wiring that a line states.
@@ -75,14 +70,9 @@ pub fn read_wiring(heap: Global, line: &[u8]) -> Result<Cabinet, PlanFault>
     ensures { FrameAnswered (frame_line line.now) (cabinet_told result) }
 {
     let mut fields = Fields::new(line);
-    let Some(kind) = fields.next() else {
-        return Err(PlanFault::NotUnderstood);
-    };
-    if same(kind, b"tree") {
-        full_tree(fields)
-    } else if same(kind, b"wires") {
-        wired_tree(heap, fields)
-    } else {
-        Err(PlanFault::NotUnderstood)
+    match fields.next() {
+        Some(b"tree") => full_tree(fields),
+        Some(b"wires") => wired_tree(heap, fields),
+        _ => Err(PlanFault::NotUnderstood),
     }
 }

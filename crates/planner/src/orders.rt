@@ -6,7 +6,7 @@ use crate::faults::PlanFault;
 use crate::plans::{Plan, plan_order};
 use crate::reading::read_all;
 use std::alloc::Global;
-use text::Fields;
+use text::{Fields, decimal};
 use wiring::Wiring;
 
 // The plan of the order that a line states: the sender, then the cards.
@@ -14,11 +14,7 @@ pub fn answer_order<W: Wiring>(heap: Global, wiring: &W, line: &[u8]) -> Result<
     ensures { OrderAnswered (W.shape wiring.now) line.now result }
 {
     let mut fields = Fields::new(line);
-    let Some(sender) = fields.decimal() else {
-        return Err(PlanFault::NotUnderstood);
-    };
-    let Some(cards) = read_all::<u16>(heap, fields)? else {
-        return Err(PlanFault::NotUnderstood);
-    };
-    Ok(plan_order(wiring, sender, cards.as_slice())?)
+    let sender = fields.read(decimal).ok_or(PlanFault::NotUnderstood)?;
+    let cards = read_all(heap, fields, decimal)?;
+    Ok(plan_order(wiring, sender, &cards)?)
 }

@@ -1,23 +1,31 @@
 -- How the first field is cut off a text.
-use Rattle.std.proofs.Common.{◌≡◌, ℕ, ◌+◌, ◌<◌, ◌≤◌, false, not, List, [], ◌∷◌, ◌++◌, length, get_or, take, drop, is_some, Some, None, Option, sym, refl, ap, ◌∙◌, arith, Bor}
-use Rattle.std.proofs.lemmas.List.{drop_more, take_all, take-append-drop}
+use Rattle.std.proofs.Common.{◌≡◌, ℕ, ◌+◌, ◌<◌, ◌==◌, false, not, List, [], ◌∷◌, length, take, drop, is_some, Some, None, Option, refl, arith, Bor}
+use Rattle.std.specs.List.{position, position_or_len}
+use Rattle.std.proofs.lemmas.Bool.Decides.{nat_tests}
+use Rattle.std.proofs.lemmas.List.Elements.{All-from_get_or}
+use Rattle.std.proofs.lemmas.List.Sums.{fails_before_first}
+use Rattle.std.proofs.lemmas.List.Splits.{slice_split_first, slice_split_none}
 use Rattle.text.specs.Fields.{fields_of, fields_in, none_left}
-use Rattle.text.specs.Parted.{NoSpace}
-use Rattle.text.proofs.Parting.{one_field, next_field, parted_fields}
+use Rattle.text.proofs.Parting.{parted_fields}
+
+found : (bs : List ℕ) (i : ℕ) → Some i ≡ position (λ b. b == 32) bs → (position_or_len (λ b. b == 32) bs ≡ i) × (i < length bs)
+found bs i e = grind (arith, nat_tests)
+
+-- at the first space
+pub cut_here : (bs : List ℕ) (i : ℕ) → Some i ≡ position (λ b. b == 32) bs → fields_of bs ≡ take i bs ∷ fields_of (drop (i + 1) bs)
+cut_here bs i e =
+    let at = found bs i e in
+    rw at.0 at (slice_split_first (λ b. b == 32) bs 0 (omega arith))
+
+-- where there is no space
+pub cut_nowhere : (bs : List ℕ) → None ≡ position (λ b. b == 32) bs → fields_of bs ≡ bs ∷ []
+cut_nowhere bs e =
+    slice_split_none (λ b. b == 32) bs
+    (All-from_get_or (λ b. (b == 32) ≡ false) bs 0 (λ i h. fails_before_first (λ b. b == 32) bs i 0 (grind (arith, nat_tests))))
 
 some_left : (fs : List (List ℕ)) → 0 < length fs → none_left fs ≡ false
 some_left [] h = absurd (omega arith)
 some_left (f ∷ fs) h = refl
-
--- at the first space
-pub cut_here : (bs : List ℕ) (i : ℕ) → i < length bs → NoSpace (take i bs) → get_or bs i 0 ≡ 32 → fields_of bs ≡ take i bs ∷ fields_of (drop (i + 1) bs)
-cut_here bs i h whole e =
-    let rest : drop i bs ≡ 32 ∷ drop (i + 1) bs = rw (drop_more bs i 0, e) in
-    ap fields_of (sym (take-append-drop i bs) ∙ ap (λ l. take i bs ++ l) rest) ∙ next_field (take i bs) (drop (i + 1) bs) whole
-
--- where there is no space
-pub cut_nowhere : (bs : List ℕ) (i : ℕ) → length bs ≤ i → NoSpace (take i bs) → fields_of bs ≡ bs ∷ []
-cut_nowhere bs i h whole = one_field bs (rw take_all at whole)
 
 -- a text has a field
 pub none_left_lem : (o : Option (Bor (List ℕ))) → none_left (fields_in o) ≡ not (is_some o)

@@ -1,48 +1,42 @@
 -- The fields of a line are the one way to part it by single spaces.
-use Rattle.std.proofs.Common.{◌≡◌, ◌≢◌, ℕ, false, eqb, List, [], ◌∷◌, ◌++◌, All, sym, refl, ap, ◌∙◌, ⊎_elim, arith, rules}
-use Rattle.std.proofs.lemmas.Bool.Decides.{eqb_tells}
-use Rattle.std.proofs.lemmas.List.Elements.{All-nil, All-cons, All-head, All-tail}
-use Rattle.text.specs.Fields.{onto, fields_of}
-use Rattle.text.specs.Parted.{spaced, NoSpace, Parted}
+use Rattle.std.proofs.Common.{◌≡◌, ◌≢◌, ℕ, Bool, true, false, cond, eqb, List, [], ◌∷◌, All, sym, ap, ◌∙◌, refl, arith, rules}
+use Rattle.std.proofs.lemmas.Bool.{eqb-false}
+use Rattle.std.specs.List.{join_with_byte, onto_first}
+use Rattle.std.proofs.lemmas.List.Elements.{All-nil, All-cons, All-head, All-tail, All-weaker}
+use Rattle.std.proofs.lemmas.List.Splits.{slice_split_none, slice_split_at, length-slice_split, join_with_byte-slice_split}
+use Rattle.text.specs.Fields.{fields_of}
+use Rattle.text.specs.Parted.{NoSpace, Parted}
 
 abbrev pub NotSpace : ℕ → Type 0
 NotSpace b = b ≢ 32
 
-not_space : (b : ℕ) → (b ≡ 32 → ⊥) → eqb b 32 ≡ false
-not_space b h = search rules
+no_space : (f : List ℕ) → NoSpace f → All (λ b. eqb b 32 ≡ false) f
+no_space = All-weaker NotSpace (λ b. eqb b 32 ≡ false) (λ b h. search rules)
 
--- the fields of a field, and of a field with a space and more after it
-pub one_field : (f : List ℕ) → NoSpace f → fields_of f ≡ f ∷ []
-one_field [] h = refl
-one_field (b ∷ f) h = rw (not_space b (All-head NotSpace b f h), one_field f (All-tail NotSpace b f h))
-
-pub next_field : (f bs : List ℕ) → NoSpace f → fields_of (f ++ 32 ∷ bs) ≡ f ∷ fields_of bs
-next_field [] bs h = refl
-next_field (b ∷ f) bs h = rw (not_space b (All-head NotSpace b f h), next_field f bs (All-tail NotSpace b f h))
-
-pub fields_spaced : (f : List ℕ) (fs : List (List ℕ)) → All NoSpace (f ∷ fs) → fields_of (spaced (f ∷ fs)) ≡ f ∷ fs
-fields_spaced f [] h = one_field f (All-head NoSpace f [] h)
-fields_spaced f (g ∷ fs) h = next_field f (spaced (g ∷ fs)) (All-head NoSpace f (g ∷ fs) h) ∙ ap (λ l. f ∷ l) (fields_spaced g fs (All-tail NoSpace f (g ∷ fs) h))
+fields_joined : (f : List ℕ) (fs : List (List ℕ)) → All NoSpace (f ∷ fs) → fields_of (join_with_byte 32 (f ∷ fs)) ≡ f ∷ fs
+fields_joined f [] h = slice_split_none (λ b. eqb b 32) f (no_space f (All-head NoSpace f [] h))
+fields_joined f (g ∷ fs) h =
+    slice_split_at (λ b. eqb b 32) f 32 (join_with_byte 32 (g ∷ fs)) (no_space f (All-head NoSpace f (g ∷ fs) h)) refl ∙
+    ap (λ l. f ∷ l) (fields_joined g fs (All-tail NoSpace f (g ∷ fs) h))
 
 pub only_fields : (line : List ℕ) (fs : List (List ℕ)) → Parted line fs → fs ≡ fields_of line
 only_fields line [] h = absurd (omega (arith, h.some))
-only_fields line (f ∷ fs) h = sym (fields_spaced f fs h.whole) ∙ ap fields_of h.back
+only_fields line (f ∷ fs) h = sym (fields_joined f fs h.whole) ∙ ap fields_of h.back
 
 -- one byte more in front of a line: a space, or another
-space_more : (line : List ℕ) (fs : List (List ℕ)) → Parted line fs → Parted (32 ∷ line) ([] ∷ fs)
-space_more line [] h = absurd (omega (arith, h.some))
-space_more line (f ∷ fs) h = record { some = omega arith; whole = All-cons NoSpace [] (f ∷ fs) (All-nil NotSpace) h.whole; back = ap (λ l. 32 ∷ l) h.back }
+byte_more : (b : ℕ) (fs : List (List ℕ)) (space : Bool) → eqb b 32 ≡ space → All NoSpace fs → All NoSpace (cond space ([] ∷ fs) (onto_first b fs))
+byte_more b fs true e h = All-cons NoSpace [] fs (All-nil NotSpace) h
+byte_more b [] false e h = All-cons NoSpace (b ∷ []) [] (All-cons NotSpace b [] (eqb-false b 32 e) (All-nil NotSpace)) h
+byte_more b (f ∷ fs) false e h =
+    All-cons NoSpace (b ∷ f) fs (All-cons NotSpace b f (eqb-false b 32 e) (All-head NoSpace f fs h)) (All-tail NoSpace f fs h)
 
-longer : (b : ℕ) (f : List ℕ) (fs : List (List ℕ)) → NotSpace b → All NoSpace (f ∷ fs) → All NoSpace ((b ∷ f) ∷ fs)
-longer b f fs e h = All-cons NoSpace (b ∷ f) fs (All-cons NotSpace b f e (All-head NoSpace f fs h)) (All-tail NoSpace f fs h)
-
-byte_more : (b : ℕ) (line : List ℕ) (fs : List (List ℕ)) → (b ≡ 32 → ⊥) → Parted line fs → Parted (b ∷ line) (onto b fs)
-byte_more b line [] e h = absurd (omega (arith, h.some))
-byte_more b line (f ∷ []) e h = record { some = omega arith; whole = longer b f [] e h.whole; back = ap (λ l. b ∷ l) h.back }
-byte_more b line (f ∷ g ∷ fs) e h = record { some = omega arith; whole = longer b f (g ∷ fs) e h.whole; back = ap (λ l. b ∷ l) h.back }
+no_space_within : (line : List ℕ) → All NoSpace (fields_of line)
+no_space_within [] = All-cons NoSpace [] [] (All-nil NotSpace) (All-nil NoSpace)
+no_space_within (b ∷ line) = byte_more b (fields_of line) (eqb b 32) refl (no_space_within line)
 
 pub parted_fields : (line : List ℕ) → Parted line (fields_of line)
-parted_fields [] = record { some = omega arith; whole = All-cons NoSpace [] [] (All-nil NotSpace) (All-nil NoSpace); back = refl }
-parted_fields (b ∷ line) =
-    let more = parted_fields line in
-    ⊎_elim (λ e. rw (e.0, e.1) (space_more line (fields_of line) more)) (λ e. rw e.0 (byte_more b line (fields_of line) e.1 more)) (eqb_tells b 32)
+parted_fields line = record {
+  some = omega (arith, length-slice_split (λ b. eqb b 32) line);
+  whole = no_space_within line;
+  back = join_with_byte-slice_split 32 line;
+}

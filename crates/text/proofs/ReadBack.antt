@@ -3,19 +3,19 @@ use Rattle.std.proofs.Common.{◌≡◌, ℕ, zero, suc, ◌+◌, ◌*◌, ◌/�
 use native.Mathlib.Nat.{pow-zero, div-eq_of_lt, pow-le-pow_right}
 use Rattle.std.proofs.lemmas.Bool.Decides.{nat_tests, eqb_tells}
 use Rattle.std.specs.Fmt.{digits, digit_glyph, digits_onto}
-use Rattle.text.specs.AndThen.{and_then}
-use Rattle.text.specs.Number.{digit_of, digit_in, number_from, number_of, hex_byte_of}
+use Rattle.std.specs.Option.{option_and_then}
+use Rattle.text.specs.Number.{digit_of, digit_in, number_from, number_of, decimal_of, hex_byte_of, hex_word_of}
 use Rattle.text.specs.Parted.{NoSpace}
-use Rattle.text.specs.Spelled.{plain_text, byte_text, ReadsBack}
+use Rattle.text.specs.Spelled.{plain_text, decimal_text, hex_text, byte_text, ReadsBack}
 use Rattle.text.proofs.OneMoreDigit.{enough}
 use Rattle.text.proofs.Parting.{NotSpace}
 use Rattle.std.proofs.lemmas.List.Elements.{All-nil, All-cons}
 
 -- what is read as a number has no space in it
-digit_no_space : (base b v : ℕ) (bs : List ℕ) (k : ℕ → Option ℕ) (o : Option ℕ) → digit_in base b ≡ o → and_then o k ≡ Some v → ((d : ℕ) → k d ≡ Some v → NoSpace bs) → NoSpace (b ∷ bs)
+digit_no_space : (base b v : ℕ) (bs : List ℕ) (k : ℕ → Option ℕ) (o : Option ℕ) → digit_in base b ≡ o → option_and_then k o ≡ Some v → ((d : ℕ) → k d ≡ Some v → NoSpace bs) → NoSpace (b ∷ bs)
 digit_no_space base b v bs k None is e more = let z : ◌≡◌ {A = ℕ} 0 1 = cc in absurd (omega arith)
 digit_no_space base b v bs k (Some d) is e more =
-    All-cons NotSpace b bs (λ space. let z : ◌≡◌ {A = ℕ} 0 1 = cc (ap (digit_in base) space) in omega arith) (more d e)
+    All-cons NotSpace b bs (λ space. let z : ◌≡◌ {A = ℕ} 0 1 = cc in omega arith) (more d e)
 
 no_space : (base n : ℕ) (bs : List ℕ) (v : ℕ) → number_from base n bs ≡ Some v → NoSpace bs
 no_space base n [] v e = All-nil NotSpace
@@ -65,7 +65,7 @@ module _ (base : ℕ) (c : Bool) (low : 2 ≤ base) (high : base ≤ 16) where
       let front = spelled_some k (n / base) (digit_glyph c (n % base) ∷ acc) in
       elim (eqb (n / base) 0) as (λ t. length acc < length (cond t (digit_glyph c (n % base) ∷ acc) (digits_onto (suc k) base c (n / base) (digit_glyph c (n % base) ∷ acc)))) [ true ↦ omega arith | false ↦ omega arith ]
 
-pub plain_back : (base most : ℕ) → 2 ≤ base → base ≤ 16 → most ≤ 64 → 1 ≤ most → (c : Bool) → ReadsBack (number_of base 1 most) (plain_text base c) (base ^ most)
+plain_back : (base most : ℕ) → 2 ≤ base → base ≤ 16 → most ≤ 64 → 1 ≤ most → (c : Bool) → ReadsBack (number_of base 1 most) (plain_text base c) (base ^ most)
 unfolding digits
 plain_back base zero low high l some c n h = absurd (omega arith)
 plain_back base (suc m) low high l some c n h =
@@ -81,3 +81,9 @@ hex_byte_back c n h =
     let low = digit_back 16 c (omega arith) (omega arith) (n % 16) (omega arith) in
     let back : number_from 16 0 (byte_text c n) ≡ Some n = rw (high, low) (ap Some (omega arith)) in
     (no_space 16 0 (byte_text c n) n back, back)
+
+pub decimal_back : ReadsBack decimal_of decimal_text 1000
+decimal_back = plain_back 10 3 (omega arith) (omega arith) (omega arith) (omega arith) false
+
+pub hex_word_back : (c : Bool) → ReadsBack hex_word_of (hex_text c) (2 ^ 32)
+hex_word_back = plain_back 16 8 (omega arith) (omega arith) (omega arith) (omega arith)

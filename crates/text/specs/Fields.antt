@@ -1,19 +1,14 @@
 -- The fields of a line. A line and a field are lists of bytes, and a space is the byte 32.
-use Rattle.std.specs.Prelude.{ℕ, Bool, true, false, cond, List, [], ◌∷◌, Some, None, Option, ◌==◌}
+use Rattle.std.specs.Prelude.{◌≡◌, ℕ, Bool, true, false, List, [], ◌∷◌, Some, None, Option, ◌==◌}
 use Rattle.std.specs.Borrow.{Bor}
-use Rattle.text.specs.AndThen.{and_then}
+use Rattle.std.specs.Fn.{FnOnceReturnsAt, Once}
+use Rattle.std.specs.List.{slice_split}
 use Rattle.text.specs.declared.fields.Fields.{Fields}
-
--- the byte b in front of the first field
-abbrev pub onto : ℕ → List (List ℕ) → List (List ℕ)
-onto b [] = (b ∷ []) ∷ []
-onto b (f ∷ fs) = (b ∷ f) ∷ fs
 
 -- Each space ends a field and begins the next. So a line has one field more than spaces, and an
 -- empty field wherever it begins or ends with a space or has two in a row.
 abbrev pub fields_of : List ℕ → List (List ℕ)
-fields_of [] = [] ∷ []
-fields_of (b ∷ bs) = cond (b == 32) ([] ∷ fields_of bs) (onto b (fields_of bs))
+fields_of = slice_split (λ b. b == 32)
 
 -- the fields of a text, if there is one
 abbrev pub fields_in : Option (Bor (List ℕ)) → List (List ℕ)
@@ -24,26 +19,17 @@ fields_in (Some text) = fields_of text.now
 abbrev pub fields_left : Fields → List (List ℕ)
 fields_left f = fields_in f.rest
 
--- the first of a list, if it has one
-abbrev pub first_of : {X : Type 0} → List X → Option X
-first_of [] = None
-first_of (x ∷ xs) = Some x
-
 -- what follows the first
 abbrev pub rest_of : {X : Type 0} → List X → List X
 rest_of [] = []
 rest_of (x ∷ xs) = xs
-
--- the bytes that an answer lends, if it lends any
-abbrev pub lent : Option (Bor (List ℕ)) → Option (List ℕ)
-lent None = None
-lent (Some bytes) = Some bytes.now
 
 -- whether there is no field
 abbrev pub none_left : List (List ℕ) → Bool
 none_left [] = true
 none_left (f ∷ fs) = false
 
--- what `read` makes of the first field, if there is one
-abbrev pub read_first : {X : Type 0} → (List ℕ → Option X) → List (List ℕ) → Option X
-read_first read fs = and_then (first_of fs) read
+-- what the call of a reader at the first field gave, or none where there is no field
+abbrev pub ReadsFirst : {F X : Type 0} → Once F (Bor (List ℕ) × Unit {0}) (Option X) → F → List (List ℕ) → Option X → Type 0
+ReadsFirst g read [] r = r ≡ None
+ReadsFirst g read (f ∷ fs) r = FnOnceReturnsAt g read f r

@@ -1,4 +1,3 @@
-pub mod AndThen
 pub mod Fields
 pub mod Number
 pub mod Parted

@@ -1,6 +1,6 @@
 -- Numbers that a field spells in decimal or hexadecimal digits. A field is a list of bytes.
 use Rattle.std.specs.Prelude.{ℕ, ◌+◌, ◌-◌, ◌*◌, Bool, cond, ◌&&◌, List, [], ◌∷◌, length, Some, None, Option, nat_le, nat_lt}
-use Rattle.text.specs.AndThen.{and_then}
+use Rattle.std.specs.Option.{option_and_then}
 
 -- n is low, high or between
 abbrev pub within : ℕ → ℕ → ℕ → Bool
@@ -16,12 +16,12 @@ digit_of b =
 
 -- the same of the digits of a base alone, which are worth less than it
 abbrev pub digit_in : ℕ → ℕ → Option ℕ
-digit_in base b = and_then (digit_of b) (λ d. cond (nat_lt d base) (Some d) None)
+digit_in base b = option_and_then (λ d. cond (nat_lt d base) (Some d) None) (digit_of b)
 
 -- digits of a base, read from the left after digits worth n
 abbrev pub number_from : ℕ → ℕ → List ℕ → Option ℕ
 number_from base n [] = Some n
-number_from base n (b ∷ bs) = and_then (digit_in base b) (λ d. number_from base (n * base + d) bs)
+number_from base n (b ∷ bs) = option_and_then (λ d. number_from base (n * base + d) bs) (digit_in base b)
 
 -- a number of `least` to `most` digits of a base, and nothing else
 abbrev pub number_of : ℕ → ℕ → ℕ → List ℕ → Option ℕ

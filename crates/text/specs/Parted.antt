@@ -1,12 +1,7 @@
 -- What it means that a line is parted into fields by single spaces. A line and a field are lists
 -- of bytes, and a space is the byte 32.
-use Rattle.std.specs.Prelude.{◌≡◌, ℕ, ◌<◌, List, [], ◌∷◌, ◌++◌, length, All, ◌≢◌}
-
--- the fields in a row, with one space between each two
-abbrev pub spaced : List (List ℕ) → List ℕ
-spaced [] = []
-spaced (f ∷ []) = f
-spaced (f ∷ g ∷ fs) = f ++ 32 ∷ spaced (g ∷ fs)
+use Rattle.std.specs.Prelude.{◌≡◌, ℕ, ◌<◌, List, length, All, ◌≢◌}
+use Rattle.std.specs.List.{join_with_byte}
 
 -- no byte of the field is a space
 abbrev pub NoSpace : List ℕ → Type 0
@@ -17,4 +12,4 @@ NoSpace f = All (λ b. b ≢ 32) f
 pub record Parted (line : List ℕ) (fs : List (List ℕ)) : Type 0 where
   pub some : 0 < length fs
   pub whole : All NoSpace fs
-  pub back : spaced fs ≡ line
+  pub back : join_with_byte 32 fs ≡ line

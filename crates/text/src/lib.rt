@@ -2,12 +2,13 @@
 //
 // Fields are parted by single spaces and by nothing else, so a space at either end of a line, or two in a
 // row, make an empty field. `Fields` cuts the fields off one by one; `decimal`, `hex_byte`, `hex_word` and
-// `same` read one field, and the first three are methods of `Fields` too, which read the next one.
+// `same` read one field, and `Fields::read` reads the next one by any of them.
 // Nothing is allocated: a field is a part of the caller's line.
 #![tactic(auto)]
 
 mod fields;
-mod number;
+// Public, since another crate passes by name only functions of public modules, as in `fields.read(decimal)`.
+pub mod number;
 mod word;
 
 pub use fields::Fields;

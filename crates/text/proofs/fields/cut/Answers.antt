@@ -1,18 +1,16 @@
-use Rattle.std.proofs.Common.{sym, ap, arith, rules}
-use Rattle.std.proofs.lemmas.List.Elements.{All-more}
+use Rattle.std.proofs.Common.{◌==◌, Some, None, tests, rules}
+use Rattle.std.proofs.lemmas.Iterator.{YieldsList-from_slice}
+use Rattle.std.proofs.lemmas.Iterator.Search.{position_from_yields_List}
 use Rattle.std.proofs.lemmas.List.{take_rest}
-use Rattle.text.specs.Fields.{first_of, rest_of}
-use Rattle.text.proofs.Parting.{NotSpace}
 use Rattle.text.proofs.Cutting.{cut_here, cut_nowhere}
 use Rattle.text.proofs.fields.cut.Goals as goal
 
-pub loop-i-preserved : goal.loop-i-preserved
-loop-i-preserved c = All-more NotSpace c.args.text.now c.loop-i.i 0 (omega arith) c.loop-i.invariant c.if-b-eq32.false
+pub returns-in-Some : goal.returns-in-Some
+returns-in-Some c =
+    let at = position_from_yields_List (λ b. b == 32) _ _ (Some c.in-Some.i) c.in-Some.ensures.ran (YieldsList-from_slice c.args.text.now cc) (λ x b q k. search (rules, tests)) in
+    rw take_rest (cut_here c.args.text.now c.in-Some.i at)
 
-pub returns-then-b-eq32 : goal.returns-then-b-eq32
-returns-then-b-eq32 c = search (rules, take_rest, cut_here)
-
-pub returns : goal.returns
-returns c =
-    let e = sym (cut_nowhere c.args.text.now c.loop-i.i (omega arith) c.loop-i.invariant) in
-    record { first = ap first_of e; rest = ap rest_of e }
+pub returns-in-None : goal.returns-in-None
+returns-in-None c =
+    let at = position_from_yields_List (λ b. b == 32) _ _ None c.in-None.ensures.ran (YieldsList-from_slice c.args.text.now cc) (λ x b q k. search (rules, tests)) in
+    cut_nowhere c.args.text.now at
