@@ -1,23 +1,46 @@
--- A table in range is sound exactly if the tree that it lists keeps the laws.
-use Rattle.std.proofs.Common.{◌≡◌, ℕ, zero, suc, ◌/◌, ◌<◌, false, eqb, ltb, ◌⊎◌, List, [], ◌∷◌, length, is_some, Some, None, Option, sym, refl, ap, ◌∙◌, inl, inr, arith}
-use Rattle.std.proofs.lemmas.Bool.{lt-ltb, eq-eqb, ne_eqb, cases_eq, cond-true, cond-false, false≢true}
-use Rattle.wiring.specs.Shapes.{Lawful}
-use Rattle.wiring.specs.Tables.{Sized, no_entry, listed_cards, entry_of, entry_at, InRange, Sound}
+-- A table is sound exactly if the tree that it lists keeps the laws.
+use Rattle.std.proofs.Common.{◌≡◌, ℕ, zero, suc, ◌+◌, ◌*◌, ◌/◌, ◌%◌, ◌<◌, Bool, true, false, cond, eqb, ltb, ◌⊎◌, List, [], ◌∷◌, length, is_some, Some, None, Option, sym, refl, ap, ◌∙◌, subst, inl, inr, arith}
+use Rattle.std.proofs.lemmas.Bool.{lt-ltb, le-ltb, ltb-true, eq-eqb, ne_eqb, cases_eq, cases_lt, cond-true, cond-false, false≢true}
+use Rattle.std.proofs.lemmas.Option.{same_Some}
+use Rattle.packet.specs.declared.sides.Side.{Side}
+use Rattle.packet.specs.declared.sides.Side.TheVariants.{Left, Right}
+use Rattle.packet.specs.Routes.{side_of}
+use Rattle.wiring.specs.Shapes.{Shape, Lawful}
+use Rattle.wiring.specs.Tables.{Sized, no_entry, listed_cards, entry_of, entry_at, listed_by, listed_daughter, IsTreeOf, Sound}
 use Rattle.wiring.specs.Wireds.{later, first_place, listed_shape}
-use Rattle.wiring.proofs.Placing.{stands_listed}
-use Rattle.wiring.proofs.Lawfulness.{entry_back, entry_at_lem, parent_some, side_at, lawful}
 
-none_or_some : (o : Option ℕ) → (o ≡ None) ⊎ ((p : ℕ) × (o ≡ Some p))
+-- the side of a place
+abbrev pub side_at : ℕ → Side
+side_at p = side_of (eqb (p % 2) 1)
+
+pub entry_back : (p : ℕ) → entry_of (p / 2) (side_at p) ≡ p
+entry_back p =
+    elim (cases_eq (p % 2) 1) [
+      | inl e ↦ rw (eq-eqb (p % 2) 1 e) (omega arith)
+      | inr n ↦ rw (ne_eqb (p % 2) 1 n) (omega arith)
+    ]
+
+pub none_or_some : {A : Type 0} (o : Option A) → (o ≡ None) ⊎ ((x : A) × (o ≡ Some x))
 none_or_some None = inl refl
-none_or_some (Some p) = inr (p, refl)
+none_or_some (Some x) = inr (x, refl)
+
+pub listed_some : (e c : ℕ) → listed_by e ≡ Some c → (e ≡ c) × (e ≡ no_entry → ⊥)
+listed_some e c h =
+    elim (cases_eq e no_entry) [
+      | inl s ↦ let z : ◌≡◌ {A = Option ℕ} None (Some c) = sym (cond-true (eqb e no_entry) None (Some e) (eq-eqb e no_entry s)) ∙ h in cc
+      | inr n ↦ let s : Some e ≡ Some c = sym (cond-false (eqb e no_entry) None (Some e) (ne_eqb e no_entry n)) ∙ h in (cc, n)
+    ]
+
+pub listed_is : (e : ℕ) → (e ≡ no_entry → ⊥) → listed_by e ≡ Some e
+listed_is e n = cond-false (eqb e no_entry) None (Some e) (ne_eqb e no_entry n)
 
 later_some : (o : Option ℕ) (p : ℕ) → later o ≡ Some p → (q : ℕ) × (o ≡ Some q) × (p ≡ suc q)
-later_some None p e = let z : ◌≡◌ {A = ℕ} 0 1 = cc in absurd (omega arith)
+later_some None p e = cc
 later_some (Some q) p e = (q, refl, cc)
 
 -- the first place is a place of the card
 first_named : (c : ℕ) (t : List ℕ) (p : ℕ) → first_place c t ≡ Some p → (p < length t) × (entry_at t p ≡ c)
-first_named c [] p e = let z : ◌≡◌ {A = ℕ} 0 1 = cc in absurd (omega arith)
+first_named c [] p e = cc
 first_named c (x ∷ xs) p e =
     elim (cases_eq x c) [
       | inl s ↦
@@ -43,46 +66,77 @@ first_some c (x ∷ xs) (suc i) l e =
           (suc q, cond-false (eqb x c) (Some 0) (later (first_place c xs)) (ne_eqb x c n) ∙ ap later f)
     ]
 
-module _ (t : List ℕ) (sized : Sized t) where
-  pub sound_lawful : Sound t → Lawful (listed_shape t)
-  sound_lawful s =
-      lawful (listed_cards t) (entry_at t) (λ c. first_place c t) sized.1 sized.2
-      (λ i ne.
-      let (low, m, only) = stands_listed t s.ranges (s.rootless, s.once) i ne in
-      let once = s.once (entry_at t i) (omega arith) m in
-      let (p, e) = first_some (entry_at t i) t once.place once.within once.here in
-      let k = first_named (entry_at t i) t p e in
-      (low, m, e ∙ ap Some (only p k.0 k.1)))
-      (elim (none_or_some (first_place 0 t)) [ inl e ↦ e | inr (p, e) ↦ let k = first_named 0 t p e in absurd (s.rootless p k.0 k.1) ])
-      (λ c z m.
-      let once = s.once c z m in
-      let (p, e) = first_some c t once.place once.within once.here in
-      (p, e, (first_named c t p e).1))
+-- the card of an entry
+pub entry_half : (p : ℕ) (b : Side) → entry_of p b / 2 ≡ p
+entry_half p Left = omega arith
+entry_half p Right = omega arith
 
-  pub lawful_sound : InRange t → Lawful (listed_shape t) → Sound t
-  lawful_sound ranges h =
-      let told : (i c : ℕ) → i < length t → entry_at t i ≡ c → c < 255 → (listed_shape t).parent c ≡ Some (i / 2, side_at i) = λ i c l e m.
+pub entry_within : (t : List ℕ) (p : ℕ) (b : Side) → p < listed_cards t → entry_of p b < length t
+entry_within t p Left l = omega arith
+entry_within t p Right l = omega arith
+
+-- a lawful tree with the daughters that the table lists
+module _ (t : List ℕ) (s : Shape) (sized : Sized t) (tree : IsTreeOf t s) where
+  -- the card that an entry names has the entry's card and side as its parent
+  named_parent : (i c : ℕ) → i < length t → entry_at t i ≡ c → (c ≡ no_entry → ⊥) → s.parent c ≡ Some (i / 2, side_at i)
+  named_parent i c l e n =
       let b : i / 2 < listed_cards t = omega (arith, sized.0) in
       let w : entry_at t (entry_of (i / 2) (side_at i)) ≡ c = ap (entry_at t) (entry_back i) ∙ e in
-      h.told (side_at i) (i / 2) c (rw (lt-ltb (i / 2) (listed_cards t) b, w) (cond-false (eqb c no_entry) None (Some c) (ne_eqb c no_entry (omega arith)))) in
+      let k : listed_daughter t (side_at i) (i / 2) ≡ Some c = rw (lt-ltb (i / 2) (listed_cards t) b, w) (listed_is c n) in
+      tree.lawful.told (side_at i) (i / 2) c (tree.lists.daughters (side_at i) (i / 2) ∙ k)
+
+  -- a card's parent names it in the entry on its side
+  parent_names : (c p : ℕ) (b : Side) → s.parent c ≡ Some (p, b) → (entry_of p b < length t) × (entry_at t (entry_of p b) ≡ c)
+  parent_names c p b e =
+      let k : listed_daughter t b p ≡ Some c = sym (tree.lists.daughters b p) ∙ tree.lawful.tells b p c e in
+      elim (cases_lt p (listed_cards t)) [
+        | inl l ↦
+            let named = listed_some (entry_at t (entry_of p b)) c (sym (cond-true (ltb p (listed_cards t)) (listed_by (entry_at t (entry_of p b))) None (lt-ltb p (listed_cards t) l)) ∙ k) in
+            (entry_within t p b l, named.0)
+        | inr l ↦
+            let z : ◌≡◌ {A = Option ℕ} None (Some c) = sym (cond-false (ltb p (listed_cards t)) (listed_by (entry_at t (entry_of p b))) None (le-ltb p (listed_cards t) l)) ∙ k in
+            cc
+      ]
+
+  pub tree_sound : Sound t
+  tree_sound =
+      let none : (i c : ℕ) → i < length t → entry_at t i ≡ c → (c ≡ no_entry → ⊥) → c < listed_cards t = λ i c l e n. omega (arith, tree.lists.cards, tree.lawful.below c (i / 2) (side_at i) (named_parent i c l e n)) in
       record {
-        ranges = ranges;
-        rootless = λ i l e. let p = told i 0 l e (omega arith) in let r = h.root in let z : ◌≡◌ {A = ℕ} 0 1 = cc in omega arith;
+        ranges = λ i l n. none i (entry_at t i) l refl n;
+        rootless = λ i l e. let p = named_parent i 0 l e (λ z. omega (arith, z)) in let r = tree.lawful.root in cc;
         once = λ c z m.
-            elim (none_or_some (first_place c t)) [
-              | inl e ↦ let n : is_some ((listed_shape t).parent c) ≡ false = rw (lt-ltb c (listed_cards t) m, e) in absurd (false≢true (sym n ∙ h.others c z m))
-              | inr (p, e) ↦
-                  let k = first_named c t p e in
-                  let up : (listed_shape t).parent c ≡ Some (p / 2, side_at p) = rw (lt-ltb c (listed_cards t) m, e) in
+            elim (none_or_some (s.parent c)) [
+              | inl e ↦ let n : is_some (s.parent c) ≡ true = tree.lawful.others c z (omega (arith, tree.lists.cards)) in absurd (false≢true (sym (ap is_some e) ∙ n))
+              | inr (x, e) ↦
+                  let k = parent_names c x.0 x.1 e in
                   record {
-                    place = p;
+                    place = entry_of x.0 x.1;
                     within = k.0;
                     here = k.1;
-                    lower = (h.below c (p / 2) (side_at p) up).0;
+                    lower = let w = (tree.lawful.below c x.0 x.1 e).0 in omega (arith, entry_half x.0 x.1);
                     only = λ j l f.
-                        let (q, y, g, a, b) = parent_some (ltb c (listed_cards t)) (first_place c t) (j / 2) (side_at j) (told j c l f (omega (arith, sized.2))) in
-                        let same : p ≡ q = cc in
-                        sym (entry_back j) ∙ entry_at_lem (j / 2) q (side_at j) a b ∙ sym same;
+                        let same = same_Some x (j / 2, side_at j) (sym e ∙ named_parent j c l f (omega (arith, sized.2))) in
+                        sym (entry_back j) ∙ ap (λ (y : ℕ × Side). entry_of y.0 y.1) (sym same);
                   }
             ];
       }
+
+  -- so the tree that is listed is this tree
+  same_parent : (c : ℕ) → s.parent c ≡ (listed_shape t).parent c
+  same_parent c =
+      elim (cases_lt c (listed_cards t)) [
+        | inl l ↦
+            elim (none_or_some (first_place c t)) [
+              | inl none ↦
+                  rw (lt-ltb c (listed_cards t) l, none)
+                  (elim (none_or_some (s.parent c)) [ inl e ↦ e | inr (x, e) ↦ let k = parent_names c x.0 x.1 e in let (p, f) = first_some c t (entry_of x.0 x.1) k.0 k.1 in cc ])
+              | inr (p, e) ↦ let k = first_named c t p e in rw (lt-ltb c (listed_cards t) l, e) (named_parent p c k.0 k.1 (omega (arith, sized.2)))
+            ]
+        | inr l ↦
+            rw (le-ltb c (listed_cards t) l) (elim (none_or_some (s.parent c)) [ inl e ↦ e | inr (x, e) ↦ absurd (omega (arith, tree.lawful.below c x.0 x.1 e, tree.lists.cards)) ])
+      ]
+
+  pub tree_lawful : Lawful (listed_shape t)
+  tree_lawful =
+      let same : s ≡ listed_shape t = λ i. record { cards = tree.lists.cards i; daughter = λ b c. tree.lists.daughters b c i; parent = λ c. same_parent c i } in
+      subst Lawful same tree.lawful

@@ -1,5 +1,2 @@
-pub mod Ranging
-pub mod Filling
-pub mod Placing
-pub mod Lawfulness
 pub mod Judging
+pub mod Linking

@@ -1,4 +1,5 @@
 pub mod Shapes
 pub mod Fulls
 pub mod Tables
+pub mod Linked
 pub mod Wireds

@@ -4,7 +4,7 @@ use Rattle.refusal.specs.declared.build.WiringFault.{WiringFault}
 use Rattle.refusal.specs.declared.build.WiringFault.TheVariants.{Size, Broken}
 use Rattle.packet.specs.declared.sides.Side.{Side}
 use Rattle.packet.specs.declared.sides.Side.TheVariants.{Left, Right}
-use Rattle.wiring.specs.Shapes.{Shape, most_cards}
+use Rattle.wiring.specs.Shapes.{Shape, Lawful, most_cards}
 
 -- the entry that stands for no daughter
 abbrev pub no_entry : ℕ
@@ -60,6 +60,11 @@ listed_daughter t b c = cond (nat_lt c (listed_cards t)) (listed_by (entry_at t 
 pub record Lists (t : List ℕ) (s : Shape) : Type 0 where
   pub cards : s.cards ≡ listed_cards t
   pub daughters : (b : Side) (c : ℕ) → s.daughter b c ≡ listed_daughter t b c
+
+-- a lawful tree, and the one that the table lists
+pub record IsTreeOf (t : List ℕ) (s : Shape) : Type 0 where
+  pub lists : Lists t s
+  pub lawful : Lawful s
 
 -- what is said of a table: the tree that it lists, or why it is refused
 abbrev pub Wired : List ℕ → Result Shape WiringFault → Type 0

@@ -2,7 +2,7 @@
 ghost use Rattle.std.specs.Prelude.{◌≡◌};
 ghost use Rattle.wiring.specs.Shapes.{full_shape};
 ghost use Rattle.wiring.specs.Fulls.{full_tree, full_told};
-ghost use Rattle.std.proofs.Common.{rules, arith};
+ghost use Rattle.std.proofs.Common.{rules};
 
 use super::FullTree;
 use crate::wire::Wiring;
@@ -26,7 +26,7 @@ impl FullTree {
 impl Wiring for FullTree {
     ghost shape = { λ t. full_shape t.cards };
 
-    ghost lawful = { first_of (Prim.search rules, Prim.grind (arith, Self.row.coded.inj)) };
+    ghost lawful = { Prim.search rules };
 
     fn cards(&self) -> u16 {
         self.cards
@@ -41,11 +41,7 @@ impl Wiring for FullTree {
             Side::Left => 2 * card + 1,
             Side::Right => 2 * card + 2,
         };
-        if daughter < self.cards {
-            Some(daughter)
-        } else {
-            None
-        }
+        (daughter < self.cards).then_some(daughter)
     }
 
     fn parent(&self, card: u16) -> Option<(u16, Side)> {

@@ -1,69 +1,67 @@
-// A table read: whether its entries are in range, and where each card stands.
-ghost use Rattle.std.specs.Prelude.{◌≡◌, ◌<◌, ◌≤◌, ◌||◌, length, Decides, ◌==◌, nat_lt};
-ghost use Rattle.wiring.specs.Tables.{no_entry, Sized, InRange};
-ghost use Rattle.wiring.specs.Wireds.{may_name, Parented, SameEntries};
+// A table read: the links of the cards that it lists.
+ghost use Rattle.std.specs.Prelude.{◌≡◌, ◌<◌, ◌≤◌, ◌↔◌, IsTrue, length, replicate, OnOk, IfErr};
+ghost use Rattle.wiring.specs.Tables.{Sized, Sound, IsTreeOf, listed_cards, listed_by};
+ghost use Rattle.wiring.specs.Linked.{unlinked, linked_shape, MayStand, IsLinked, AllHaveParents};
 
-// The entry for no daughter.
-pub(super) const NO_ENTRY: u8 = 255;
+use super::Links;
+use packet::Side;
+use refusal::WiringFault;
 
-// Whether an entry is none or one of so many cards.
-fn is_in_range(entry: u8, cards: usize) -> bool
-    ensures { result ≡ (entry == no_entry || nat_lt entry cards) }
+// The card that an entry names; 255 names none.
+fn named(entry: u8) -> Option<u16>
+    ensures { result ≡ listed_by entry }
 {
-    entry == NO_ENTRY || usize::from(entry) < cards
+    (entry != 255).then_some(u16::from(entry))
 }
 
-// Whether every entry is none or a card.
-pub(super) fn in_range(table: &[u8]) -> bool
-    ensures { Decides result (InRange table.now) }
+// Gives a card its daughter on this side, or none. A daughter is a card with a higher number that has no parent yet.
+fn link(
+    cards: &mut [Links],
+    card: u16,
+    side: Side,
+    daughter: Option<u16>,
+) -> Result<(), WiringFault>
+    requires { card < length cards.old }
+    ensures ok { OnOk result (IsLinked cards.old cards.new card side daughter) }
+    ensures err { IfErr result (λ f. (f ≡ WiringFault.Broken) × (MayStand cards.old card daughter → ⊥)) }
 {
-    let cards = table.len() / 2;
-    for entry in table {
-        if !is_in_range(*entry, cards) {
-            return false;
+    if let Some(daughter) = daughter {
+        let below = usize::from(daughter);
+        if daughter <= card || below >= cards.len() || cards[below].parent.is_some() {
+            return Err(WiringFault::Broken);
         }
+        cards[below].parent = Some((card, side));
     }
-    true
-}
-
-// Whether the entry at a place may name this card: one above the entry's own, and not named before.
-fn may_name(parents: &[u8; 31], place: usize, card: usize) -> bool
-    requires { card < 31 }
-    ensures { result ≡ may_name parents.now place card }
-{
-    place / 2 < card && parents[card] == NO_ENTRY
-}
-
-// The place of each card's one entry, if card 0 stands in none and each other card in one of a lower card.
-pub(super) fn parents_in(table: &[u8]) -> Option<[u8; 31]>
-    requires { (Sized table.now) × (InRange table.now) }
-    ensures { Parented table.now result }
-{
-    let mut parents = [NO_ENTRY; 31];
-    for (place, entry) in table.iter().enumerate() {
-        if *entry == NO_ENTRY {
-            continue;
-        }
-        let card = usize::from(*entry);
-        if !may_name(&parents, place, card) {
-            return None;
-        }
-        parents[card] = place as u8;
+    let links = &mut cards[usize::from(card)];
+    match side {
+        Side::Left => links.left = daughter,
+        Side::Right => links.right = daughter,
     }
-    for card in 1..table.len() / 2 {
-        if parents[card] == NO_ENTRY {
-            return None;
-        }
-    }
-    Some(parents)
+    Ok(())
 }
 
-// The table, filled up with entries for none.
-pub(super) fn filled(table: &[u8]) -> [u8; 62]
-    requires { length table.now ≤ 62 }
-    ensures { SameEntries table.now result }
+// Whether every card but the first has a parent.
+fn all_have_parents(cards: &[Links]) -> bool
+    requires { 1 ≤ length cards.now }
+    ensures { IsTrue result ↔ AllHaveParents cards.now }
 {
-    let mut entries = [NO_ENTRY; 62];
-    entries[..table.len()].copy_from_slice(table);
-    entries
+    cards[1..].iter().all(|card| card.parent.is_some())
+}
+
+// Links cards as a table lists them, if it lists a tree.
+pub(super) fn link_all(cards: &mut [Links], table: &[u8]) -> Result<(), WiringFault>
+    requires size { Sized table.now }
+    requires bare { cards.old ≡ replicate (listed_cards table.now) unlinked }
+    ensures ok { OnOk result (IsTreeOf table.now (linked_shape (listed_cards table.now) cards.new)) }
+    ensures err { IfErr result (λ f. (f ≡ WiringFault.Broken) × (Sound table.now → ⊥)) }
+{
+    for (entries, card) in table.chunks_exact(2).zip(0..) {
+        link(cards, card, Side::Left, named(entries[0]))?;
+        link(cards, card, Side::Right, named(entries[1]))?;
+    }
+    if all_have_parents(cards) {
+        Ok(())
+    } else {
+        Err(WiringFault::Broken)
+    }
 }

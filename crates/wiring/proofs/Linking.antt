@@ -1,0 +1,178 @@
+-- The cards linked, entry by entry.
+use Rattle.std.proofs.Common.{add-zero, ◌≡◌, ℕ, ◌+◌, ◌*◌, ◌/◌, ◌%◌, ◌<◌, ◌≤◌, Bool, true, false, cond, eqb, ltb, ◌⊎◌, List, length, get_or, take, drop, replicate, ◌++◌, is_some, Some, None, Option, sym, refl, ap, ◌∙◌, subst, inl, inr, arith}
+use Rattle.std.specs.Option.{IfSome}
+use Rattle.std.proofs.lemmas.Bool.{lt-ltb, le-ltb, eq-eqb, cases_eq, cases_lt, cond-true, false≢true}
+use Rattle.std.proofs.lemmas.Option.{same_Some, some_pair_parts, MatchOption-at_some}
+use Rattle.std.proofs.lemmas.List.{get_or_default, get_or-drop, drop-drop, drop_at, length-drop, length-append, get_or-replicate, get_or_past, length-replicate, take-replicate, get_or_append_left}
+use Rattle.packet.specs.declared.sides.Side.{Side}
+use Rattle.packet.specs.declared.sides.Side.TheVariants.{Left, Right}
+use Rattle.wiring.specs.declared.wired.Links.{Links}
+use Rattle.wiring.specs.Shapes.{Lawful}
+use Rattle.wiring.specs.Tables.{Sized, no_entry, listed_cards, entry_of, entry_at, listed_by, Lists, IsTreeOf, Sound}
+use Rattle.wiring.specs.Linked.{unlinked, daughter_by, daughter_in, parent_in, linked_shape, MayStand, IsLinked, AllHaveParents}
+use Rattle.wiring.proofs.Judging.{side_at, entry_back, entry_half, entry_within, none_or_some, listed_some, listed_is}
+
+-- after i entries: the cards' links agree, and their daughters are those that these entries name
+pub record LinkedUpTo (t : List ℕ) (ls : List Links) (i : ℕ) : Type 0 where
+  pub size : length ls ≡ listed_cards t
+  pub below : (c p : ℕ) (b : Side) → parent_in ls c ≡ Some (p, b) → (p < c) × (c < length ls)
+  pub told : (b : Side) (p c : ℕ) → daughter_in ls b p ≡ Some c → parent_in ls c ≡ Some (p, b)
+  pub tells : (b : Side) (p c : ℕ) → parent_in ls c ≡ Some (p, b) → daughter_in ls b p ≡ Some c
+  pub listed : (b : Side) (p : ℕ) → entry_of p b < i → daughter_in ls b p ≡ listed_by (entry_at t (entry_of p b))
+  pub past : (b : Side) (p : ℕ) → i ≤ entry_of p b → daughter_in ls b p ≡ None
+
+entry_same : (p q : ℕ) (b s : Side) → entry_of p b ≡ entry_of q s → (p ≡ q) × (b ≡ s)
+entry_same p q Left Left e = (omega arith, refl)
+entry_same p q Right Right e = (omega arith, refl)
+entry_same p q Left Right e = absurd (omega arith)
+entry_same p q Right Left e = absurd (omega arith)
+
+is_or_not : (o : Option ℕ) (c : ℕ) → (o ≡ Some c) ⊎ (o ≡ Some c → ⊥)
+is_or_not None c = inr (λ e. cc)
+is_or_not (Some d) c = elim (cases_eq d c) [ inl e ↦ inl (ap Some e) | inr n ↦ inr (λ e. n (same_Some d c e)) ]
+
+none_linked : (n c : ℕ) → get_or (replicate n unlinked) c unlinked ≡ unlinked
+none_linked n c =
+    elim (cases_lt c n) [
+      | inl l ↦ get_or-replicate n c unlinked unlinked l
+      | inr l ↦ get_or_past (replicate n unlinked) c unlinked (rw length-replicate l)
+    ]
+
+no_daughter : (b : Side) → daughter_by b unlinked ≡ None
+no_daughter Left = refl
+no_daughter Right = refl
+
+-- nothing is linked before the first entry
+pub linked_none : (t : List ℕ) → LinkedUpTo t (replicate (listed_cards t) unlinked) 0
+linked_none t =
+    let n = listed_cards t in
+    let no_parent : (c : ℕ) → parent_in (replicate n unlinked) c ≡ None = λ c. ap (λ (l : Links). l.parent) (none_linked n c) in
+    let bare : (b : Side) (c : ℕ) → daughter_in (replicate n unlinked) b c ≡ None = λ b c. ap (daughter_by b) (none_linked n c) ∙ no_daughter b in
+    record {
+      size = length-replicate n unlinked;
+      below = λ c p b e. let z = no_parent c in cc;
+      told = λ b p c e. let z = bare b p in cc;
+      tells = λ b p c e. let z = no_parent c in cc;
+      listed = λ b p e. absurd (omega arith);
+      past = λ b p e. bare b p;
+    }
+
+-- the next two entries
+pub pair_at : (t xs rest : List ℕ) (c : ℕ) → drop (2 * c) t ≡ xs ++ rest → length xs ≡ 2 → (2 * c + 2 ≤ length t) × (get_or xs 0 0 ≡ entry_at t (2 * c)) × (get_or xs 1 0 ≡ entry_at t (2 * c + 1)) × (rest ≡ drop (2 * c + 2) t)
+pair_at t xs rest c e two =
+    let at : (k : ℕ) → k < 2 → get_or xs k 0 ≡ entry_at t (2 * c + k) = λ k l.
+    get_or_default xs k 0 255 (omega arith) ∙ sym (get_or_append_left xs rest 255 k (omega arith)) ∙ ap (λ (z : List ℕ). get_or z k 255) (sym e) ∙ get_or-drop (2 * c) t k 255 in
+    (omega (arith, ap length e, length-drop (2 * c) t, length-append xs rest), rw (← add-zero (2 * c)) (at 0 (omega arith)), at 1 (omega arith), sym (ap (drop 2) e ∙ drop_at xs rest 2 two) ∙ drop-drop 2 (2 * c) t)
+
+-- fewer than two entries are left, so none
+pub table_end : (t rest : List ℕ) (c : ℕ) → Sized t → rest ≡ drop (2 * c) t → 2 * c ≤ length t → length rest < 2 → 2 * c ≡ length t
+table_end t rest c sized e l few = omega (arith, sized.0, ap length e, length-drop (2 * c) t)
+
+-- the next entry, which is p's on side b
+module _ (t : List ℕ) (ls : List Links) (p : ℕ) (b : Side) (named : Option ℕ) (is : named ≡ listed_by (entry_at t (entry_of p b))) (h : LinkedUpTo t ls (entry_of p b)) where
+  pub linked_more : (new : List Links) → IsLinked ls new p b named → (i : ℕ) → i ≡ entry_of p b + 1 → LinkedUpTo t new i
+  linked_more new k i next =
+      let here : (s : Side) (q : ℕ) → entry_of q s ≡ entry_of p b → daughter_in new s q ≡ named = λ s q e. let (x, y) = entry_same q p s b e in rw (x, y) k.daughter in
+      let may : (c : ℕ) → named ≡ Some c → (p < c) × (c < length ls) × (parent_in ls c ≡ None) = λ c e.
+      MatchOption-at_some (Unit {0}) (λ d. (p < d) × (d < length ls) × (parent_in ls d ≡ None)) c e k.may in
+      let up : (c : ℕ) → named ≡ Some c → parent_in new c ≡ Some (p, b) = λ c e. MatchOption-at_some (Unit {0}) (λ d. parent_in new d ≡ Some (p, b)) c e k.parent in
+      record {
+        size = k.size ∙ h.size;
+        below = λ c q s e.
+            elim (is_or_not named c) [
+              | inl n ↦ let (x, y) = some_pair_parts p q b s (sym (up c n) ∙ e) in let m = may c n in (omega (arith, x, m.0), omega (arith, m.1, k.size))
+              | inr n ↦ let m = h.below c q s (sym (k.other_parents c n) ∙ e) in (m.0, omega (arith, m.1, k.size))
+            ];
+        told = λ s q c e.
+            elim (cases_eq (entry_of q s) (entry_of p b)) [
+              | inl i ↦ let (x, y) = entry_same q p s b i in rw (x, y) (up c (sym (here s q i) ∙ e))
+              | inr n ↦ let f = h.told s q c (sym (k.other_daughters s q n) ∙ e) in k.other_parents c (λ m. let z = (may c m).2 in cc) ∙ f
+            ];
+        tells = λ s q c e.
+            elim (is_or_not named c) [
+              | inl n ↦ let (x, y) = some_pair_parts p q b s (sym (up c n) ∙ e) in rw (sym x, sym y) (k.daughter ∙ n)
+              | inr n ↦
+                  let f = h.tells s q c (sym (k.other_parents c n) ∙ e) in
+                  k.other_daughters s q (λ i. let z : daughter_in ls s q ≡ None = h.past s q (omega (arith, i)) in cc) ∙ f
+            ];
+        listed = λ s q e.
+            elim (cases_eq (entry_of q s) (entry_of p b)) [
+              | inl i ↦ here s q i ∙ is ∙ ap (λ (j : ℕ). listed_by (entry_at t j)) (sym i)
+              | inr n ↦ k.other_daughters s q n ∙ h.listed s q (omega (arith, n))
+            ];
+        past = λ s q e. k.other_daughters s q (λ j. omega (arith, j, next)) ∙ h.past s q (omega arith);
+      }
+
+  -- a card that may not stand there breaks the rules of a table
+  pub not_linked : p < listed_cards t → (MayStand ls p named → ⊥) → Sound t → ⊥
+  not_linked l barred sound =
+      let i = entry_of p b in
+      let e = entry_at t i in
+      let within = entry_within t p b l in
+      elim (cases_eq e no_entry) [
+        | inl z ↦ barred (subst (MayStand ls p) (sym (is ∙ cond-true (eqb e no_entry) None (Some e) (eq-eqb e no_entry z))) tt)
+        | inr n ↦
+            elim (cases_lt 0 e) [
+              | inl z ↦
+                  let m = sound.ranges i within n in
+                  let once = sound.once e z m in
+                  let here = once.only i within refl in
+                  let free : parent_in ls e ≡ None = elim (none_or_some (parent_in ls e)) [
+                    | inl f ↦ f
+                    | inr (x, f) ↦
+                        let d = h.tells x.1 x.0 e f in
+                        elim (cases_lt (entry_of x.0 x.1) i) [
+                          | inl l ↦
+                              let (g, _) = listed_some (entry_at t (entry_of x.0 x.1)) e (sym (h.listed x.1 x.0 l) ∙ d) in
+                              let w = once.only (entry_of x.0 x.1) (omega (arith, l, within)) g in
+                              absurd (omega (arith, here, w, l))
+                          | inr l ↦ let w = h.past x.1 x.0 l in cc
+                        ]
+                  ] in
+                  barred (subst (MayStand ls p) (sym (is ∙ listed_is e n)) (omega (arith, entry_half p b, ap (λ (j : ℕ). j / 2) here, once.lower), omega (arith, h.size, m), free))
+              | inr z ↦ sound.rootless i within (omega (arith, z))
+            ]
+      ]
+
+-- all entries are linked
+module _ (t : List ℕ) (ls : List Links) (sized : Sized t) (h : LinkedUpTo t ls (length t)) where
+  pub all_named : Sound t → AllHaveParents ls
+  all_named sound c z m =
+      let once = sound.once c z (omega (arith, h.size)) in
+      let here : entry_at t (entry_of (once.place / 2) (side_at once.place)) ≡ c = ap (entry_at t) (entry_back once.place) ∙ once.here in
+      let d : daughter_in ls (side_at once.place) (once.place / 2) ≡ Some c =
+      h.listed (side_at once.place) (once.place / 2) (rw (entry_back once.place) once.within) ∙ ap listed_by here ∙ listed_is c (omega (arith, sized.2, h.size)) in
+      ap is_some (h.told (side_at once.place) (once.place / 2) c d)
+
+  pub all_linked : AllHaveParents ls → IsTreeOf t (linked_shape (listed_cards t) ls)
+  all_linked others =
+      let n = listed_cards t in
+      let past : (c : ℕ) → n ≤ c → get_or ls c unlinked ≡ unlinked = λ c l. get_or_past ls c unlinked (omega (arith, h.size, l)) in
+      let parent : (c : ℕ) → (linked_shape n ls).parent c ≡ parent_in ls c = λ c.
+      elim (cases_lt c n) [ inl l ↦ rw (lt-ltb c n l) refl | inr l ↦ rw (le-ltb c n l) (sym (ap (λ (x : Links). x.parent) (past c l))) ] in
+      let daughter : (b : Side) (c : ℕ) → (linked_shape n ls).daughter b c ≡ daughter_in ls b c = λ b c.
+      elim (cases_lt c n) [ inl l ↦ rw (lt-ltb c n l) refl | inr l ↦ rw (le-ltb c n l) (sym (ap (daughter_by b) (past c l) ∙ no_daughter b)) ] in
+      record {
+        lists = record {
+          cards = refl;
+          daughters = λ b c. elim (cases_lt c n) [ inl l ↦ rw (lt-ltb c n l) (h.listed b c (entry_within t c b l)) | inr l ↦ rw (le-ltb c n l) refl ];
+        };
+        lawful = record {
+          some = sized.1;
+          few = sized.2;
+          root = parent 0 ∙ elim (none_or_some (parent_in ls 0)) [ inl e ↦ e | inr (x, e) ↦ absurd (omega (arith, h.below 0 x.0 x.1 e)) ];
+          others = λ c z l. ap is_some (parent c) ∙ others c z (omega (arith, h.size));
+          below = λ c p b e. let k = h.below c p b (sym (parent c) ∙ e) in (k.0, omega (arith, k.1, h.size));
+          told = λ b p c e. parent c ∙ h.told b p c (sym (daughter b p) ∙ e);
+          tells = λ b p c e. daughter b p ∙ h.tells b p c (sym (parent c) ∙ e);
+        };
+      }
+
+-- what stands past the cards says nothing
+pub padded : (t : List ℕ) (ls rest : List Links) → listed_cards t ≤ length ls → IsTreeOf t (linked_shape (listed_cards t) ls) → IsTreeOf t (linked_shape (listed_cards t) (ls ++ rest))
+padded t ls rest few tree =
+    let n = listed_cards t in
+    let same : (A : Type 0) (f : Links → Option A) (c : ℕ) → cond (ltb c n) (f (get_or ls c unlinked)) None ≡ cond (ltb c n) (f (get_or (ls ++ rest) c unlinked)) None = λ A f c.
+    elim (cases_lt c n) [ inl l ↦ rw (get_or_append_left ls rest unlinked c (omega arith)) refl | inr l ↦ rw (le-ltb c n l) refl ] in
+    let shapes : linked_shape n ls ≡ linked_shape n (ls ++ rest) = λ i. record { cards = n; daughter = λ b c. same ℕ (daughter_by b) c i; parent = λ c. same (ℕ × Side) (λ (x : Links). x.parent) c i } in
+    subst (IsTreeOf t) shapes tree
