@@ -1,13 +1,16 @@
 -- A table is sound exactly if the tree that it lists keeps the laws.
-use Rattle.std.proofs.Common.{◌≡◌, ℕ, zero, suc, ◌+◌, ◌*◌, ◌/◌, ◌%◌, ◌<◌, Bool, true, false, cond, eqb, ltb, ◌⊎◌, List, [], ◌∷◌, length, is_some, Some, None, Option, sym, refl, ap, ◌∙◌, subst, inl, inr, arith}
-use Rattle.std.proofs.lemmas.Bool.{lt-ltb, le-ltb, ltb-true, eq-eqb, ne_eqb, cases_eq, cases_lt, cond-true, cond-false, false≢true}
+use Rattle.std.proofs.Common.{◌≡◌, ℕ, ◌/◌, ◌%◌, ◌<◌, true, eqb, ltb, ◌⊎◌, List, length, is_some, Some, None, Option, sym, refl, ap, ◌∙◌, subst, inl, inr, arith}
+use Rattle.std.proofs.lemmas.Bool.{eqb-true, eqb-false, lt-ltb, le-ltb, eq-eqb, ne_eqb, cases_eq, cases_lt, cond-true, cond-false, false≢true}
+use Rattle.std.specs.List.{position, position_or_len}
+use Rattle.std.proofs.lemmas.List.Sums.{fails_before_first}
+use Rattle.std.proofs.lemmas.List.Quantifiers.{position-Some}
 use Rattle.std.proofs.lemmas.Option.{same_Some}
 use Rattle.packet.specs.declared.sides.Side.{Side}
 use Rattle.packet.specs.declared.sides.Side.TheVariants.{Left, Right}
 use Rattle.packet.specs.Routes.{side_of}
 use Rattle.wiring.specs.Shapes.{Shape, Lawful}
 use Rattle.wiring.specs.Tables.{Sized, no_entry, listed_cards, entry_of, entry_at, listed_by, listed_daughter, IsTreeOf, Sound}
-use Rattle.wiring.specs.Wireds.{later, first_place, listed_shape}
+use Rattle.wiring.specs.Wireds.{listed_shape}
 
 -- the side of a place
 abbrev pub side_at : ℕ → Side
@@ -34,36 +37,12 @@ listed_some e c h =
 pub listed_is : (e : ℕ) → (e ≡ no_entry → ⊥) → listed_by e ≡ Some e
 listed_is e n = cond-false (eqb e no_entry) None (Some e) (ne_eqb e no_entry n)
 
-later_some : (o : Option ℕ) (p : ℕ) → later o ≡ Some p → (q : ℕ) × (o ≡ Some q) × (p ≡ suc q)
-later_some None p e = cc
-later_some (Some q) p e = (q, refl, cc)
-
--- the first place is a place of the card
-first_named : (c : ℕ) (t : List ℕ) (p : ℕ) → first_place c t ≡ Some p → (p < length t) × (entry_at t p ≡ c)
-first_named c [] p e = cc
-first_named c (x ∷ xs) p e =
-    elim (cases_eq x c) [
-      | inl s ↦
-          let z : Some 0 ≡ Some p = sym (cond-true (eqb x c) (Some 0) (later (first_place c xs)) (eq-eqb x c s)) ∙ e in
-          let o : p ≡ 0 = cc in
-          rw o (omega arith, s)
-      | inr n ↦
-          let z : later (first_place c xs) ≡ Some p = sym (cond-false (eqb x c) (Some 0) (later (first_place c xs)) (ne_eqb x c n)) ∙ e in
-          let (q, f, o) = later_some (first_place c xs) p z in
-          let k = first_named c xs q f in
-          rw o (omega (arith, k.0), k.1)
-    ]
-
--- a card that stands somewhere has a first place
-first_some : (c : ℕ) (t : List ℕ) (i : ℕ) → i < length t → entry_at t i ≡ c → (p : ℕ) × (first_place c t ≡ Some p)
-first_some c [] i l e = absurd (omega arith)
-first_some c (x ∷ xs) zero l e = (0, cond-true (eqb x c) (Some 0) (later (first_place c xs)) (eq-eqb x c e))
-first_some c (x ∷ xs) (suc i) l e =
-    elim (cases_eq x c) [
-      | inl s ↦ (0, cond-true (eqb x c) (Some 0) (later (first_place c xs)) (eq-eqb x c s))
-      | inr n ↦
-          let (q, f) = first_some c xs i (omega arith) e in
-          (suc q, cond-false (eqb x c) (Some 0) (later (first_place c xs)) (ne_eqb x c n) ∙ ap later f)
+-- the first place of a card that stands somewhere
+first_place : (c : ℕ) (t : List ℕ) (i : ℕ) → i < length t → entry_at t i ≡ c → (p : ℕ) × (position (λ e. eqb e c) t ≡ Some p)
+first_place c t i l e =
+    elim (cases_lt (position_or_len (λ e. eqb e c) t) (length t)) [
+      | inl m ↦ (position_or_len (λ e. eqb e c) t, cond-true (ltb (position_or_len (λ e. eqb e c) t) (length t)) (Some (position_or_len (λ e. eqb e c) t)) None (lt-ltb (position_or_len (λ e. eqb e c) t) (length t) m))
+      | inr m ↦ absurd (eqb-false (entry_at t i) c (fails_before_first (λ e. eqb e c) t i 255 (omega arith)) e)
     ]
 
 -- the card of an entry
@@ -126,11 +105,11 @@ module _ (t : List ℕ) (s : Shape) (sized : Sized t) (tree : IsTreeOf t s) wher
   same_parent c =
       elim (cases_lt c (listed_cards t)) [
         | inl l ↦
-            elim (none_or_some (first_place c t)) [
+            elim (none_or_some (position (λ e. eqb e c) t)) [
               | inl none ↦
                   rw (lt-ltb c (listed_cards t) l, none)
-                  (elim (none_or_some (s.parent c)) [ inl e ↦ e | inr (x, e) ↦ let k = parent_names c x.0 x.1 e in let (p, f) = first_some c t (entry_of x.0 x.1) k.0 k.1 in cc ])
-              | inr (p, e) ↦ let k = first_named c t p e in rw (lt-ltb c (listed_cards t) l, e) (named_parent p c k.0 k.1 (omega (arith, sized.2)))
+                  (elim (none_or_some (s.parent c)) [ inl e ↦ e | inr (x, e) ↦ let k = parent_names c x.0 x.1 e in let (p, f) = first_place c t (entry_of x.0 x.1) k.0 k.1 in cc ])
+              | inr (p, e) ↦ let k = position-Some (λ e. eqb e c) t p 255 e in rw (lt-ltb c (listed_cards t) l, e) (named_parent p c k.0 (eqb-true (entry_at t p) c k.1) (omega (arith, sized.2)))
             ]
         | inr l ↦
             rw (le-ltb c (listed_cards t) l) (elim (none_or_some (s.parent c)) [ inl e ↦ e | inr (x, e) ↦ absurd (omega (arith, tree.lawful.below c x.0 x.1 e, tree.lists.cards)) ])

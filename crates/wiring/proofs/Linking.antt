@@ -1,14 +1,12 @@
 -- The cards linked, entry by entry.
-use Rattle.std.proofs.Common.{add-zero, ◌≡◌, ℕ, ◌+◌, ◌*◌, ◌/◌, ◌%◌, ◌<◌, ◌≤◌, Bool, true, false, cond, eqb, ltb, ◌⊎◌, List, length, get_or, take, drop, replicate, ◌++◌, is_some, Some, None, Option, sym, refl, ap, ◌∙◌, subst, inl, inr, arith}
-use Rattle.std.specs.Option.{IfSome}
-use Rattle.std.proofs.lemmas.Bool.{lt-ltb, le-ltb, eq-eqb, cases_eq, cases_lt, cond-true, false≢true}
+use Rattle.std.proofs.Common.{add-zero, ◌≡◌, ℕ, ◌+◌, ◌*◌, ◌/◌, ◌<◌, ◌≤◌, cond, eqb, ltb, ◌⊎◌, List, length, get_or, drop, replicate, ◌++◌, is_some, Some, None, Option, sym, refl, ap, ◌∙◌, subst, inl, inr, arith}
+use Rattle.std.proofs.lemmas.Bool.{lt-ltb, le-ltb, eq-eqb, cases_eq, cases_lt, cond-true}
 use Rattle.std.proofs.lemmas.Option.{same_Some, some_pair_parts, MatchOption-at_some}
-use Rattle.std.proofs.lemmas.List.{get_or_default, get_or-drop, drop-drop, drop_at, length-drop, length-append, get_or-replicate, get_or_past, length-replicate, take-replicate, get_or_append_left}
+use Rattle.std.proofs.lemmas.List.{get_or_default, get_or-drop, drop-drop, drop_at, length-drop, length-append, get_or-replicate, get_or_past, length-replicate, get_or_append_left}
 use Rattle.packet.specs.declared.sides.Side.{Side}
 use Rattle.packet.specs.declared.sides.Side.TheVariants.{Left, Right}
 use Rattle.wiring.specs.declared.wired.Links.{Links}
-use Rattle.wiring.specs.Shapes.{Lawful}
-use Rattle.wiring.specs.Tables.{Sized, no_entry, listed_cards, entry_of, entry_at, listed_by, Lists, IsTreeOf, Sound}
+use Rattle.wiring.specs.Tables.{Sized, no_entry, listed_cards, entry_of, entry_at, listed_by, IsTreeOf, Sound}
 use Rattle.wiring.specs.Linked.{unlinked, daughter_by, daughter_in, parent_in, linked_shape, MayStand, IsLinked, AllHaveParents}
 use Rattle.wiring.proofs.Judging.{side_at, entry_back, entry_half, entry_within, none_or_some, listed_some, listed_is}
 
@@ -56,13 +54,6 @@ linked_none t =
       listed = λ b p e. absurd (omega arith);
       past = λ b p e. bare b p;
     }
-
--- the next two entries
-pub pair_at : (t xs rest : List ℕ) (c : ℕ) → drop (2 * c) t ≡ xs ++ rest → length xs ≡ 2 → (2 * c + 2 ≤ length t) × (get_or xs 0 0 ≡ entry_at t (2 * c)) × (get_or xs 1 0 ≡ entry_at t (2 * c + 1)) × (rest ≡ drop (2 * c + 2) t)
-pair_at t xs rest c e two =
-    let at : (k : ℕ) → k < 2 → get_or xs k 0 ≡ entry_at t (2 * c + k) = λ k l.
-    get_or_default xs k 0 255 (omega arith) ∙ sym (get_or_append_left xs rest 255 k (omega arith)) ∙ ap (λ (z : List ℕ). get_or z k 255) (sym e) ∙ get_or-drop (2 * c) t k 255 in
-    (omega (arith, ap length e, length-drop (2 * c) t, length-append xs rest), rw (← add-zero (2 * c)) (at 0 (omega arith)), at 1 (omega arith), sym (ap (drop 2) e ∙ drop_at xs rest 2 two) ∙ drop-drop 2 (2 * c) t)
 
 -- fewer than two entries are left, so none
 pub table_end : (t rest : List ℕ) (c : ℕ) → Sized t → rest ≡ drop (2 * c) t → 2 * c ≤ length t → length rest < 2 → 2 * c ≡ length t
@@ -134,7 +125,34 @@ module _ (t : List ℕ) (ls : List Links) (p : ℕ) (b : Side) (named : Option �
             ]
       ]
 
--- all entries are linked
+-- the next two entries, which are p's
+module _ (t : List ℕ) (ls : List Links) (p : ℕ) (xs rest : List ℕ) (e : drop (2 * p) t ≡ xs ++ rest) (two : length xs ≡ 2) (h : LinkedUpTo t ls (2 * p)) where
+  at : (k : ℕ) → k < 2 → get_or xs k 0 ≡ entry_at t (2 * p + k)
+  at k l = get_or_default xs k 0 255 (omega arith) ∙ sym (get_or_append_left xs rest 255 k (omega arith)) ∙ ap (λ (z : List ℕ). get_or z k 255) (sym e) ∙ get_or-drop (2 * p) t k 255
+
+  first : get_or xs 0 0 ≡ entry_at t (2 * p)
+  first = rw (← add-zero (2 * p)) (at 0 (omega arith))
+
+  pub pair_within : 2 * p + 2 ≤ length t
+  pair_within = omega (arith, ap length e, length-drop (2 * p) t, length-append xs rest)
+
+  pub pair_rest : rest ≡ drop (2 * (p + 1)) t
+  pair_rest = sym (ap (drop 2) e ∙ drop_at xs rest 2 two) ∙ drop-drop 2 (2 * p) t ∙ ap (λ (k : ℕ). drop k t) (omega arith)
+
+  pub left_barred : (MayStand ls p (listed_by (get_or xs 0 0)) → ⊥) → Sound t → ⊥
+  left_barred = let w = pair_within in not_linked t ls p Left (listed_by (get_or xs 0 0)) (ap listed_by first) h (omega arith)
+
+  module _ (mid : List Links) (k : IsLinked ls mid p Left (listed_by (get_or xs 0 0))) where
+    left_linked : LinkedUpTo t mid (2 * p + 1)
+    left_linked = linked_more t ls p Left (listed_by (get_or xs 0 0)) (ap listed_by first) h mid k (2 * p + 1) refl
+
+    pub right_barred : (MayStand mid p (listed_by (get_or xs 1 0)) → ⊥) → Sound t → ⊥
+    right_barred = let w = pair_within in not_linked t mid p Right (listed_by (get_or xs 1 0)) (ap listed_by (at 1 (omega arith))) left_linked (omega arith)
+
+    pub pair_linked : (new : List Links) → IsLinked mid new p Right (listed_by (get_or xs 1 0)) → LinkedUpTo t new (2 * (p + 1))
+    pair_linked new j = linked_more t mid p Right (listed_by (get_or xs 1 0)) (ap listed_by (at 1 (omega arith))) left_linked new j (2 * (p + 1)) (omega arith)
+
+-- all entries are linked: where the table is sound each card but the first is named, and where each has a parent it is the table's tree
 module _ (t : List ℕ) (ls : List Links) (sized : Sized t) (h : LinkedUpTo t ls (length t)) where
   pub all_named : Sound t → AllHaveParents ls
   all_named sound c z m =

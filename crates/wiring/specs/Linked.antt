@@ -1,4 +1,4 @@
--- What cards know of each other: their daughters and their parents.
+-- The links of cards: a card's daughters and its parent.
 use Rattle.std.specs.Prelude.{◌≡◌, ℕ, cond, List, length, Some, None, Option, IsSome, IfSome, ◌≢◌, ◌<◌, nat_lt, slice_index_or}
 use Rattle.packet.specs.declared.sides.Side.{Side}
 use Rattle.packet.specs.declared.sides.Side.TheVariants.{Left, Right}
@@ -6,7 +6,7 @@ use Rattle.wiring.specs.declared.wired.Links.{Links}
 use Rattle.wiring.specs.Shapes.{Shape}
 use Rattle.wiring.specs.Tables.{entry_of}
 
--- what a card with no daughter and no parent knows
+-- no daughter and no parent
 abbrev pub unlinked : Links
 unlinked = record { left = None; right = None; parent = None }
 
@@ -14,7 +14,7 @@ abbrev pub daughter_by : Side → Links → Option ℕ
 daughter_by Left l = l.left
 daughter_by Right l = l.right
 
--- what a list of links says of a card; past its end nothing
+-- what the cards' links say of a card; past the last card nothing
 abbrev pub daughter_in : List Links → Side → ℕ → Option ℕ
 daughter_in ls b c = daughter_by b (slice_index_or ls c unlinked)
 
@@ -29,7 +29,7 @@ linked_shape n ls = record {
   parent = λ c. cond (nat_lt c n) (parent_in ls c) None;
 }
 
--- a card that is to be p's daughter is a card above p with no parent
+-- what is to be p's daughter is a card with a higher number and no parent
 abbrev pub MayStand : List Links → ℕ → Option ℕ → Type 0
 MayStand ls p o = IfSome o (λ d. (p < d) × (d < length ls) × (parent_in ls d ≡ None))
 

@@ -1,5 +1,6 @@
 -- The wired tree: what it means, and what the check of a table finds.
-use Rattle.std.specs.Prelude.{ℕ, suc, ◌/◌, ◌%◌, cond, List, [], ◌∷◌, Some, None, Ok, Err, Option, Result, ◌==◌, nat_lt}
+use Rattle.std.specs.Prelude.{ℕ, ◌/◌, ◌%◌, cond, List, None, Ok, Err, Result, ◌==◌, nat_lt, position}
+use Rattle.std.specs.Option.{option_map}
 use Rattle.refusal.specs.declared.build.WiringFault.{WiringFault}
 use Rattle.refusal.specs.declared.build.WiringFault.TheVariants.{Size, Broken}
 use Rattle.packet.specs.declared.sides.Side.{Side}
@@ -9,26 +10,16 @@ use Rattle.wiring.specs.Shapes.{Shape, Lawful}
 use Rattle.wiring.specs.Linked.{linked_shape}
 use Rattle.wiring.specs.Tables.{listed_cards, InRange, listed_daughter}
 
--- the parent and the side that the place of a card's entry tells
-abbrev pub parent_by : Option ℕ → Option (ℕ × Side)
-parent_by None = None
-parent_by (Some p) = Some (p / 2, side_of (p % 2 == 1))
-
--- the place of the first entry that names a card
-abbrev pub later : Option ℕ → Option ℕ
-later None = None
-later (Some p) = Some (suc p)
-
-abbrev pub first_place : ℕ → List ℕ → Option ℕ
-first_place c [] = None
-first_place c (e ∷ es) = cond (e == c) (Some 0) (later (first_place c es))
+-- the card that an entry is of, and the side
+abbrev pub parent_at : ℕ → ℕ × Side
+parent_at i = (i / 2, side_of (i % 2 == 1))
 
 -- the tree as a table lists it, sound or not: a card's parent is by the first entry that names her
 abbrev pub listed_shape : List ℕ → Shape
 listed_shape t = record {
   cards = listed_cards t;
   daughter = listed_daughter t;
-  parent = λ c. cond (nat_lt c (listed_cards t)) (parent_by (first_place c t)) None;
+  parent = λ c. cond (nat_lt c (listed_cards t)) (option_map parent_at (position (λ e. e == c) t)) None;
 }
 
 -- a table of the right size is refused exactly if an entry is out of range or the tree that it lists breaks a law
