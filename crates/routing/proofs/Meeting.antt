@@ -1,10 +1,11 @@
 -- The lowest card over others.
+use Rattle.std.specs.List.{list_all}
 use Rattle.std.proofs.Common.{◌≡◌, ℕ, ◌+◌, ◌<◌, ◌≤◌, Bool, true, false, ◌&&◌, List, [], ◌∷◌, length, get_or, drop, Some, sym, refl, ap, ◌∙◌, add-one, arith, drop-cons}
 use Rattle.std.proofs.lemmas.List.{drop_all}
 use Rattle.packet.specs.declared.sides.Side.{Side}
 use Rattle.wiring.specs.Shapes.{Shape, Lawful}
 use Rattle.routing.specs.Subtrees.{covers, covers_all}
-use Rattle.routing.specs.Orders.{all_of, Lowest}
+use Rattle.routing.specs.Orders.{Lowest}
 use Rattle.routing.proofs.Subtree.{covers_other, covers_le, covers_self}
 
 pub and_false : (x : Bool) → (x && false) ≡ false
@@ -64,16 +65,5 @@ unfolding covers_all
 all_done s u i cs l = ap (covers_all s u) (drop_all i cs l)
 
 -- a test of all that is left of a list
-pub test_next : (f : ℕ → Bool) (i : ℕ) (cs : List ℕ) → i < length cs → all_of f (drop i cs) ≡ (f (get_or cs i 0) && all_of f (drop (i + 1) cs))
-unfolding all_of
-test_next f i cs l = ap (all_of f) (drop-cons cs i 0 l) ∙ ap (λ (k : ℕ). f (get_or cs i 0) && all_of f (drop k cs)) (sym (add-one i))
-
-pub test_done : (f : ℕ → Bool) (i : ℕ) (cs : List ℕ) → length cs ≤ i → all_of f (drop i cs) ≡ true
-unfolding all_of
-test_done f i cs l = ap (all_of f) (drop_all i cs l)
-
-pub test_fails : (f : ℕ → Bool) (i : ℕ) (cs : List ℕ) → i < length cs → f (get_or cs i 0) ≡ false → all_of f (drop i cs) ≡ false
-test_fails f i cs l e = test_next f i cs l ∙ ap (λ (x : Bool). x && all_of f (drop (i + 1) cs)) e
-
-pub test_passes : (f : ℕ → Bool) (i : ℕ) (cs : List ℕ) → i < length cs → f (get_or cs i 0) ≡ true → all_of f (drop i cs) ≡ all_of f (drop (i + 1) cs)
-test_passes f i cs l e = test_next f i cs l ∙ ap (λ (x : Bool). x && all_of f (drop (i + 1) cs)) e
+pub test_next : (f : ℕ → Bool) (i : ℕ) (cs : List ℕ) → i < length cs → list_all f (drop i cs) ≡ (f (get_or cs i 0) && list_all f (drop (i + 1) cs))
+test_next f i cs l = ap (list_all f) (drop-cons cs i 0 l) ∙ ap (λ (k : ℕ). f (get_or cs i 0) && list_all f (drop k cs)) (sym (add-one i))

@@ -1,6 +1,9 @@
 -- A made route, read again; and the answer to an order.
-use Rattle.std.proofs.Common.{◌≡◌, ℕ, ◌+◌, ◌-◌, ◌<◌, ◌≤◌, Bool, true, false, cond, ◌&&◌, ltb, List, [], ◌∷◌, length, get_or, take, drop, Some, None, Ok, sym, refl, ap, ◌∙◌, subst, ap₂, arith, ltb-true, le-ltb, lt-ltb, leb-false}
+use Rattle.std.specs.List.{list_all}
+use Rattle.std.proofs.Common.{◌≡◌, ℕ, ◌+◌, ◌-◌, ◌<◌, ◌≤◌, Bool, true, false, cond, ◌&&◌, ltb, List, [], ◌∷◌, length, get_or, take, drop, Some, None, Ok, Err, Option, ok_or, sym, refl, ap, ◌∙◌, subst, ap₂, arith, ltb-true, le-ltb, lt-ltb, leb-false}
 use Rattle.std.proofs.lemmas.Slice.{first_rest}
+use Rattle.refusal.specs.declared.order.OrderFault.TheVariants.{NoneListed, TooLong}
+use Rattle.packet.specs.declared.heads.Head.{Head}
 use Rattle.packet.specs.declared.heads.Mode.{Mode}
 use Rattle.packet.specs.declared.heads.Mode.TheVariants.{Target, Flood}
 use Rattle.packet.specs.Routes.{Leads, route_in, read_route, fits_route, write_route, route_for, route_width}
@@ -8,7 +11,7 @@ use Rattle.packet.specs.Heads.{head_word}
 use Rattle.wiring.specs.Shapes.{Shape, Lawful}
 use Rattle.routing.specs.Walks.{walk_of, walk_by, walk_from, walk_to}
 use Rattle.routing.specs.Subtrees.{covers, covers_all}
-use Rattle.routing.specs.Orders.{all_of, all_there, mode_for, Lowest, Journey, LeadsTo, TooFar, Serves, Unserved}
+use Rattle.routing.specs.Orders.{all_there, mode_for, Lowest, Journey, LeadsTo, TooFar, HeadTo, Serves, Ordered, head_in, head_told}
 use Rattle.routing.proofs.Meeting.{lowest_by, and_parts, and_false}
 
 route_back : (m : Mode) (b : ℕ) → b < 512 → route_in (head_word m b) ≡ b
@@ -45,23 +48,23 @@ module _ (s : Shape) (c t : ℕ) where
 abbrev pub rest : List ℕ → List ℕ
 rest cs = take (length cs - 1) (drop 1 cs)
 
-all_cons : (f : ℕ → Bool) (x : ℕ) (xs : List ℕ) → all_of f (x ∷ xs) ≡ (f x && all_of f xs)
-unfolding all_of
+all_cons : (f : ℕ → Bool) (x : ℕ) (xs : List ℕ) → list_all f (x ∷ xs) ≡ (f x && list_all f xs)
 all_cons f x xs = refl
 
 -- a number that is no card
 pub sender_unknown : (s : Shape) (c : ℕ) (cs : List ℕ) → s.cards ≤ c → all_there s (c ∷ cs) ≡ false
-sender_unknown s c cs l = all_cons _ c cs ∙ ap (λ (x : Bool). x && all_there s cs) (le-ltb c s.cards l)
+sender_unknown s c cs l = all_cons (λ x. ltb x s.cards) c cs ∙ ap (λ (x : Bool). x && all_there s cs) (le-ltb c s.cards l)
 
 pub listed_unknown : (s : Shape) (c : ℕ) (cs : List ℕ) → all_there s cs ≡ false → all_there s (c ∷ cs) ≡ false
-listed_unknown s c cs e = all_cons _ c cs ∙ (ap (λ (x : Bool). ltb c s.cards && x) e ∙ and_false (ltb c s.cards))
+listed_unknown s c cs e = all_cons (λ x. ltb x s.cards) c cs ∙ (ap (λ (x : Bool). ltb c s.cards && x) e ∙ and_false (ltb c s.cards))
 
 pub all_known : (s : Shape) (c : ℕ) (cs : List ℕ) → c < s.cards → all_there s cs ≡ true → all_there s (c ∷ cs) ≡ true
-all_known s c cs l e = all_cons _ c cs ∙ ap₂ (λ (x y : Bool). x && y) (lt-ltb c s.cards l) e
+all_known s c cs l e = all_cons (λ x. ltb x s.cards) c cs ∙ ap₂ (λ (x y : Bool). x && y) (lt-ltb c s.cards l) e
 
-pub none_listed : (cs : List ℕ) → length cs < 1 → cs ≡ []
-none_listed [] l = refl
-none_listed (x ∷ xs) l = absurd (omega arith)
+-- no card listed
+pub none_listed : (s : Shape) (c : ℕ) (cs : List ℕ) → c < s.cards → length cs < 1 → Ordered s c cs (Err NoneListed)
+none_listed s c [] m l = (all_known s c [] m refl, refl)
+none_listed s c (x ∷ xs) m l = absurd (omega arith)
 
 -- the first of the cards and the others
 pub first_known : (s : Shape) (cs : List ℕ) → 0 < length cs → all_there s cs ≡ true → (get_or cs 0 0 < s.cards) × (all_there s (rest cs) ≡ true)
@@ -75,9 +78,11 @@ module _ (s : Shape) (L : Lawful s) (c : ℕ) (cs : List ℕ) (l : 0 < length cs
   unfolding covers_all
   lowest_listed = lowest_by s L cs t (λ u. meets u ∙ ap (covers_all s u) (sym (first_rest cs 0 l)))
 
-  pub served : (h : ℕ) (m : Mode) → m ≡ mode_for (get_or cs 0 0 ∷ rest cs) → LeadsTo s c t m h → Serves s c cs h
+  served : (h : ℕ) (m : Mode) → m ≡ mode_for (get_or cs 0 0 ∷ rest cs) → LeadsTo s c t m h → Serves s c cs h
   served h m e k =
       record { terminus = t; lowest = lowest_listed; leads = subst (λ (x : Mode). LeadsTo s c t x h) (e ∙ ap mode_for (sym (first_rest cs 0 l))) k }
 
-  pub unserved : TooFar s c t → Unserved s c cs
-  unserved k = record { terminus = t; lowest = lowest_listed; far = k }
+  -- the answer where all are cards and one is listed: the head, or that there is none
+  pub answered : (m : Mode) (o : Option Head) → all_there s (c ∷ cs) ≡ true → m ≡ mode_for (get_or cs 0 0 ∷ rest cs) → HeadTo s c t m (head_in o) → Ordered s c cs (head_told (ok_or o TooLong))
+  answered m (Some h) k e w = (k, served (head_word h.mode h.route.bits) m e w)
+  answered m None k e w = (k, record { terminus = t; lowest = lowest_listed; far = w })

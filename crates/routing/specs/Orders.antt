@@ -1,5 +1,6 @@
 -- What a route order asks for: the head of a packet from a sender to a list of cards.
-use Rattle.std.specs.Prelude.{◌≡◌, ℕ, ◌+◌, ◌<◌, Bool, true, false, cond, ◌&&◌, List, [], ◌∷◌, length, Some, None, Ok, Err, Option, Result, nat_eq, nat_lt}
+use Rattle.std.specs.Prelude.{◌≡◌, ℕ, ◌+◌, ◌<◌, Bool, true, false, cond, List, [], ◌∷◌, length, Some, None, Ok, Err, Option, Result, nat_eq, nat_lt}
+use Rattle.std.specs.List.{list_all}
 use Rattle.refusal.specs.declared.order.OrderFault.{OrderFault}
 use Rattle.refusal.specs.declared.order.OrderFault.TheVariants.{Unknown, NoneListed, TooLong}
 use Rattle.packet.specs.declared.sides.Side.{Side}
@@ -13,19 +14,14 @@ use Rattle.wiring.specs.Shapes.{Shape}
 use Rattle.routing.specs.Walks.{climb, descend, walk_of}
 use Rattle.routing.specs.Subtrees.{covers, covers_all}
 
--- do all pass the test
-unfoldable pub all_of : (ℕ → Bool) → List ℕ → Bool
-all_of f [] = true
-all_of f (c ∷ cs) = f c && all_of f cs
-
 -- these numbers are cards
 abbrev pub all_there : Shape → List ℕ → Bool
-all_there s cs = all_of (λ c. nat_lt c s.cards) cs
+all_there s cs = list_all (λ c. nat_lt c s.cards) cs
 
 -- one distinct card makes a targeted packet, more make it flood
 abbrev pub mode_for : List ℕ → Mode
 mode_for [] = Target
-mode_for (c ∷ cs) = cond (all_of (nat_eq c) cs) Target Flood
+mode_for (c ∷ cs) = cond (list_all (nat_eq c) cs) Target Flood
 
 -- t is the card farthest from card 0 whose subtree has all these cards: it has them, and every card whose subtree has them is t or
 -- stands above it

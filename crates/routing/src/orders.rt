@@ -1,10 +1,11 @@
 // The route maker: the head of a packet from a sender to a list of cards, over any wiring.
-ghost use Rattle.std.specs.Prelude.{◌≡◌, ℕ, ◌<◌, true, ◌&&◌, ◌∷◌, Some, Result, nat_eq, nat_lt};
+ghost use Rattle.std.specs.Prelude.{◌≡◌, ℕ, ◌<◌, true, ◌&&◌, ◌∷◌, Some, Result, nat_lt};
 ghost use Rattle.refusal.specs.declared.order.OrderFault.{OrderFault};
 ghost use Rattle.packet.specs.Courses.{sides_told, course_told};
 ghost use Rattle.routing.specs.Walks.{climb};
 ghost use Rattle.routing.specs.Subtrees.{covers, covers_all};
-ghost use Rattle.routing.specs.Orders.{all_of, mode_for, WayDown, CourseTo, HeadTo, head_in, Ordered, head_told};
+ghost use Rattle.std.specs.List.{list_all};
+ghost use Rattle.routing.specs.Orders.{mode_for, WayDown, CourseTo, HeadTo, head_in, Ordered, head_told};
 
 use packet::{Course, Head, Mode, Side, Sides};
 use refusal::OrderFault;
@@ -39,34 +40,10 @@ fn meet<W: Wiring>(wiring: &W, a: u16, b: u16) -> u16
     x
 }
 
-// Whether all these numbers are below n.
-fn all_below(cards: &[u16], n: u16) -> bool
-    ensures { result ≡ all_of (λ c. nat_lt c n) cards.now }
-{
-    for card in cards {
-        if *card >= n {
-            return false;
-        }
-    }
-    true
-}
-
-// Whether all these cards are the same as the first.
-fn all_same(first: u16, cards: &[u16]) -> bool
-    ensures { result ≡ all_of (nat_eq first) cards.now }
-{
-    for card in cards {
-        if *card != first {
-            return false;
-        }
-    }
-    true
-}
-
 // The lowest card over this one and all the others.
 fn lowest<W: Wiring>(wiring: &W, first: u16, others: &[u16]) -> u16
     requires first { first < (W.shape wiring.now).cards }
-    requires others { all_of (λ c. nat_lt c (W.shape wiring.now).cards) others.now ≡ true }
+    requires others { list_all (λ c. nat_lt c (W.shape wiring.now).cards) others.now ≡ true }
     ensures meets { (u : ℕ) → covers (W.shape wiring.now) u result ≡ (covers (W.shape wiring.now) u first && covers_all (W.shape wiring.now) u others.now) }
     ensures within { result < (W.shape wiring.now).cards }
 {
@@ -135,7 +112,7 @@ fn head_to<W: Wiring>(wiring: &W, sender: u16, terminus: u16, mode: Mode) -> Opt
 fn mode_for(first: u16, others: &[u16]) -> Mode
     ensures { result ≡ mode_for (first ∷ others.now) }
 {
-    if all_same(first, others) {
+    if others.iter().all(|card| first == *card) {
         Mode::Target
     } else {
         Mode::Flood
@@ -148,15 +125,12 @@ pub fn order<W: Wiring>(wiring: &W, sender: u16, cards: &[u16]) -> Result<Head, 
     ensures only { (q : Result ℕ OrderFault) → Ordered (W.shape wiring.now) sender cards.now q → q ≡ head_told result }
 {
     let n = wiring.cards();
-    if sender >= n || !all_below(cards, n) {
+    if sender >= n || !cards.iter().all(|card| *card < n) {
         return Err(OrderFault::Unknown);
     }
     let [first, others @ ..] = cards else {
         return Err(OrderFault::NoneListed);
     };
     let terminus = lowest(wiring, *first, others);
-    match head_to(wiring, sender, terminus, mode_for(*first, others)) {
-        Some(head) => Ok(head),
-        None => Err(OrderFault::TooLong),
-    }
+    head_to(wiring, sender, terminus, mode_for(*first, others)).ok_or(OrderFault::TooLong)
 }
