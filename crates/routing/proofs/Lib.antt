@@ -1,4 +1,4 @@
-pub mod Walking
+pub mod Upward
 pub mod Subtree
 pub mod Meeting
 pub mod Ways

@@ -1,6 +1,6 @@
 -- A made route, read again; and the answer to an order.
 use Rattle.std.specs.List.{list_all}
-use Rattle.std.proofs.Common.{◌≡◌, ℕ, ◌+◌, ◌-◌, ◌<◌, ◌≤◌, Bool, true, false, cond, ◌&&◌, ltb, List, [], ◌∷◌, length, get_or, take, drop, Some, None, Ok, Err, Option, ok_or, sym, refl, ap, ◌∙◌, subst, ap₂, arith, ltb-true, le-ltb, lt-ltb, leb-false}
+use Rattle.std.proofs.Common.{◌≡◌, ℕ, ◌+◌, ◌-◌, ◌<◌, Bool, true, false, cond, ◌&&◌, ltb, List, [], ◌∷◌, length, get_or, take, drop, Some, None, Ok, Err, Option, ok_or, sym, refl, ap, ◌∙◌, subst, ap₂, arith, ltb-true, lt-ltb, leb-false}
 use Rattle.std.proofs.lemmas.Slice.{first_rest}
 use Rattle.refusal.specs.declared.order.OrderFault.TheVariants.{NoneListed, TooLong}
 use Rattle.packet.specs.declared.heads.Head.{Head}
@@ -12,7 +12,7 @@ use Rattle.wiring.specs.Shapes.{Shape, Lawful}
 use Rattle.routing.specs.Walks.{walk_of, walk_by, walk_from, walk_to}
 use Rattle.routing.specs.Subtrees.{covers, covers_all}
 use Rattle.routing.specs.Orders.{all_there, mode_for, Lowest, Journey, LeadsTo, TooFar, HeadTo, Serves, Ordered, head_in, head_told}
-use Rattle.routing.proofs.Meeting.{lowest_by, and_parts, and_false}
+use Rattle.routing.proofs.Meeting.{lowest_by, and_parts}
 
 route_back : (m : Mode) (b : ℕ) → b < 512 → route_in (head_word m b) ≡ b
 route_back Target b l = omega arith
@@ -50,13 +50,6 @@ rest cs = take (length cs - 1) (drop 1 cs)
 
 all_cons : (f : ℕ → Bool) (x : ℕ) (xs : List ℕ) → list_all f (x ∷ xs) ≡ (f x && list_all f xs)
 all_cons f x xs = refl
-
--- a number that is no card
-pub sender_unknown : (s : Shape) (c : ℕ) (cs : List ℕ) → s.cards ≤ c → all_there s (c ∷ cs) ≡ false
-sender_unknown s c cs l = all_cons (λ x. ltb x s.cards) c cs ∙ ap (λ (x : Bool). x && all_there s cs) (le-ltb c s.cards l)
-
-pub listed_unknown : (s : Shape) (c : ℕ) (cs : List ℕ) → all_there s cs ≡ false → all_there s (c ∷ cs) ≡ false
-listed_unknown s c cs e = all_cons (λ x. ltb x s.cards) c cs ∙ (ap (λ (x : Bool). ltb c s.cards && x) e ∙ and_false (ltb c s.cards))
 
 pub all_known : (s : Shape) (c : ℕ) (cs : List ℕ) → c < s.cards → all_there s cs ≡ true → all_there s (c ∷ cs) ≡ true
 all_known s c cs l e = all_cons (λ x. ltb x s.cards) c cs ∙ ap₂ (λ (x y : Bool). x && y) (lt-ltb c s.cards l) e

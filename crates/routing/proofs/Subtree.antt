@@ -46,7 +46,7 @@ module _ (s : Shape) (L : Lawful s) where
   covers_other t d p b e z = covers_up t d p b e ∙ ap (λ (x : Bool). x || covers s t p) (ne_eqb t d z)
 
   -- a card above another has a lower number
-  in_le : (k t d : ℕ) → covers_in s k t d ≡ true → t ≤ d
+  pub in_le : (k t d : ℕ) → covers_in s k t d ≡ true → t ≤ d
   unfolding covers_in
   in_le zero t d e = absurd (grind arith)
   in_le (suc k) t d e = or_cases (eqb t d) (of_parent (covers_in s k t) (s.parent d)) e (λ q. let u = eqb-true t d q in omega arith) (λ q. parents (s.parent d) refl q (in_le k t))

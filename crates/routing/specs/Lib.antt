@@ -1,3 +1,4 @@
+pub mod Ancestors
 pub mod Walks
 pub mod Subtrees
 pub mod Orders

@@ -1,6 +1,7 @@
 // Routes over any wiring: the walk, the hops of a packet, and the route maker.
 #![tactic(auto)]
 
+mod ancestors;
 mod orders;
 mod subtrees;
 mod walks;

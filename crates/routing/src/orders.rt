@@ -7,6 +7,7 @@ ghost use Rattle.routing.specs.Subtrees.{covers, covers_all};
 ghost use Rattle.std.specs.List.{list_all};
 ghost use Rattle.routing.specs.Orders.{mode_for, WayDown, CourseTo, HeadTo, head_in, Ordered, head_told};
 
+use crate::ancestors::up_from;
 use packet::{Course, Head, Mode, Side, Sides};
 use refusal::OrderFault;
 use wiring::Wiring;
@@ -56,17 +57,12 @@ fn lowest<W: Wiring>(wiring: &W, first: u16, others: &[u16]) -> u16
 
 // How many links it is up from this card to one that stands over it.
 fn links_up<W: Wiring>(wiring: &W, card: u16, top: u16) -> u16
-    requires within { card < (W.shape wiring.now).cards }
-    requires over { covers (W.shape wiring.now) top card ≡ true }
+    requires { covers (W.shape wiring.now) top card ≡ true }
     ensures { climb (W.shape wiring.now) result card ≡ Some top }
 {
-    let mut at = card;
-    let mut ups = 0;
-    while at != top {
-        at = parent_of(wiring, at).0;
-        ups += 1;
-    }
-    ups
+    up_from(wiring, card)
+        .take_while(|above| *above != top)
+        .count() as u16
 }
 
 // The sides of the way down to this card from one that stands over it, or none where there are too many.

@@ -2,6 +2,7 @@
 ghost use Rattle.std.specs.Prelude.{◌≡◌};
 ghost use Rattle.routing.specs.Subtrees.{covers, subtree_size, reach, hops_a_word, path_hops};
 
+use crate::ancestors::up_from;
 use crate::walks::Walk;
 use packet::Mode;
 use wiring::Wiring;
@@ -10,27 +11,18 @@ use wiring::Wiring;
 pub fn stands_over<W: Wiring>(wiring: &W, top: u16, card: u16) -> bool
     ensures { result ≡ covers (W.shape wiring.now) top card }
 {
-    let mut at = card;
-    while at > top {
-        let Some((parent, _)) = wiring.parent(at) else {
-            return false;
-        };
-        at = parent;
-    }
-    at == top
+    up_from(wiring, card)
+        .take_while(|above| *above >= top)
+        .any(|above| above == top)
 }
 
 // How many cards the subtree of this card has, itself counted.
 pub fn subtree_size<W: Wiring>(wiring: &W, card: u16) -> u16
     ensures { result ≡ subtree_size (W.shape wiring.now) card }
 {
-    let mut size = 0;
-    for other in 0..wiring.cards() {
-        if stands_over(wiring, card, other) {
-            size += 1;
-        }
-    }
-    size
+    (0..wiring.cards())
+        .filter(|other| stands_over(wiring, card, *other))
+        .count() as u16
 }
 
 // How many cards a packet of this mode and terminus reaches.

@@ -3,6 +3,7 @@ ghost use Rattle.std.specs.Prelude.{◌≡◌, ℕ};
 ghost use Rattle.packet.specs.Courses.{sides_in};
 ghost use Rattle.routing.specs.Walks.{climb, descend, walk_of};
 
+use crate::ancestors::up_from;
 use packet::{Course, Route, Sides};
 use refusal::RouteFault;
 use wiring::Wiring;
@@ -20,14 +21,7 @@ pub struct Walk {
 fn climbed<W: Wiring>(wiring: &W, card: u16, ups: u16) -> Option<u16>
     ensures { result ≡ climb (W.shape wiring.now) ups card }
 {
-    let mut at = card;
-    let mut left = ups;
-    while left > 0 {
-        let (parent, _) = wiring.parent(at)?;
-        at = parent;
-        left -= 1;
-    }
-    Some(at)
+    up_from(wiring, card).nth(usize::from(ups))
 }
 
 // The card that is reached from this one by these sides.

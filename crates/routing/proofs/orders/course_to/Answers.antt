@@ -11,7 +11,7 @@ links_up-ups-requires g c =
     let s = g.W.Wiring.shape c.args.wiring.now in
     let L = g.met.W.Wiring.lawful c.args.wiring.now in
     let u = c.meet-turn.result in
-    record { within = c.requires.sender; over = (and_parts _ _ (sym (c.meet-turn.ensures.meets u) ∙ covers_self s L u)).0 }
+    (and_parts _ _ (sym (c.meet-turn.ensures.meets u) ∙ covers_self s L u)).0
 
 pub sides_down-requires : goal.sides_down-requires
 sides_down-requires g c =

@@ -1,34 +1,17 @@
-use Rattle.std.proofs.Common.{Some, ap, ◌∙◌, arith}
-use Rattle.routing.proofs.Ways.{climb_none, climb_more, under, still_under}
+use borrow.Author.Tests.{tests}
+use Rattle.std.proofs.Common.{not, eqb, ◌∙◌, rules}
+use Rattle.std.proofs.lemmas.Iterator.Consumers.{YieldsList-from_first, count_from_yields_List}
+use Rattle.std.proofs.lemmas.Iterator.Search.{YieldsList-from_take_while}
+use Rattle.std.proofs.lemmas.List.Folds.{length-prefix_len}
+use Rattle.routing.specs.Ancestors.{upward, upward_from}
+use Rattle.routing.proofs.Upward.{climb_to}
 use Rattle.routing.proofs.orders.links_up.Goals as goal
 
-pub loop-at-init : goal.loop-at-init
-loop-at-init g c = (climb_none (g.W.Wiring.shape c.args.wiring.now) c.args.card, c.requires.over, omega arith)
-
-pub parent_of-at-requires : goal.parent_of-at-requires
-parent_of-at-requires g c =
-    let s = g.W.Wiring.shape c.args.wiring.now in
-    let L = g.met.W.Wiring.lawful c.args.wiring.now in
-    let (i, j, k) = c.loop-at.invariant in
-    let w = c.requires.within in
-    (under s L c.args.top c.loop-at.at j c.loop-at-test.true, omega arith)
-
-pub loop-at-smaller : goal.loop-at-smaller
-loop-at-smaller g c =
-    ((g.met.W.Wiring.lawful c.args.wiring.now).below c.loop-at.at c.parent_of-at.result.0 c.parent_of-at.result.1 c.parent_of-at.ensures).0
-
-pub loop-at-preserved : goal.loop-at-preserved
-loop-at-preserved g c =
-    let s = g.W.Wiring.shape c.args.wiring.now in
-    let L = g.met.W.Wiring.lawful c.args.wiring.now in
-    let p = c.parent_of-at.result in
-    let e = c.parent_of-at.ensures in
-    let b = (L.below c.loop-at.at p.0 p.1 e).0 in
-    let (i, j, k) = c.loop-at.invariant in (
-      climb_more s c.loop-at.ups c.args.card c.loop-at.at p.0 p.1 i e,
-      still_under s L c.args.top c.loop-at.at p.0 p.1 j c.loop-at-test.true e,
-      omega arith,
-    )
-
 pub returns : goal.returns
-returns g c = c.loop-at.invariant.0 ∙ ap Some c.loop-at-test.false
+returns g c =
+    let s = g.W.Wiring.shape c.args.wiring.now in
+    let e = count_from_yields_List _ c.count.result c.count.ensures.ran
+    (YieldsList-from_take_while _ (λ x. not (eqb c.args.top x))
+    (YieldsList-from_first (λ x. x) (λ w. upward_from (g.W.Wiring.shape w.wiring.now) w.at) (upward s c.args.card) (search rules))
+    c.take_while.ensures.closure c.take_while.ensures.done (λ x b q k. search (rules, tests))) in
+    rw (e ∙ length-prefix_len (λ x. not (eqb c.args.top x)) (upward s c.args.card)) (climb_to s (g.met.W.Wiring.lawful c.args.wiring.now) c.args.top c.args.card c.requires)
