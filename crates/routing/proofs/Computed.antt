@@ -5,7 +5,7 @@ use Rattle.wiring.specs.Shapes.{Shape, Lawful}
 use Rattle.routing.specs.Subtrees.{covers, covers_all}
 use Rattle.routing.specs.Orders.{Lowest}
 use Rattle.routing.proofs.Subtree.{covers_le, or_cases}
-use Rattle.routing.proofs.Meeting.{and_parts}
+use Rattle.std.proofs.lemmas.Bool.{and_parts}
 
 -- does every number below n pass the test
 unfoldable pub every_below : ℕ → (ℕ → Bool) → Bool
@@ -28,7 +28,7 @@ unfoldable pub lowest_test : Shape → ℕ → List ℕ → ℕ → Bool
 lowest_test s c cs t = ltb c s.cards && covers_all s t (c ∷ cs) && every_below s.cards (λ u. not (covers_all s u (c ∷ cs)) || covers s u t)
 
 pub tested : (s : Shape) → Lawful s → (c : ℕ) (cs : List ℕ) (t : ℕ) → lowest_test s c cs t ≡ true → Lowest s (c ∷ cs) t
-unfolding lowest_test covers_all
+unfolding lowest_test
 tested s L c cs t e =
     let (p, every) = and_parts _ _ e in
     let (card, has) = and_parts _ _ p in

@@ -9,7 +9,7 @@ use Rattle.packet.specs.Heads.{mode_of, head_word}
 use Rattle.routing.specs.declared.walks.Walk.{Walk}
 use Rattle.wiring.specs.Shapes.{Shape, Lawful, full_shape}
 use Rattle.routing.specs.Walks.{climb, descend, walk_of}
-use Rattle.routing.specs.Subtrees.{covers_in, covers, covers_all, count_below, subtree_size, hops_a_word}
+use Rattle.routing.specs.Subtrees.{covers_in, covers, count_below, subtree_size, hops_a_word}
 use Rattle.routing.specs.Orders.{all_there, mode_for, Ordered}
 use Rattle.routing.specs.Worked.{HopsAre, AllHold, worked, full}
 use Rattle.routing.proofs.Computed.{every_below, lowest_test, tested}
@@ -54,7 +54,7 @@ five : Lawful (full 5)
 five = full_lawful 31 (omega arith) (omega arith)
 
 pub all_hold : AllHold worked
-unfolding bits_from route_bits has_one ups_of after_turn before_stop read_bits read_route climb descend covers_in covers covers_all count_below subtree_size every_below lowest_test
+unfolding bits_from route_bits has_one ups_of after_turn before_stop read_bits read_route climb descend covers_in covers count_below subtree_size every_below lowest_test
 all_hold = (
   made_by (full 3) three 3 5 (6 ∷ []) 0xA00001B0 7 (walked 0 2 2 1) refl refl refl refl refl refl,
   (

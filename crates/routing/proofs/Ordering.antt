@@ -1,6 +1,5 @@
 -- A made route, read again; and the answer to an order.
-use Rattle.std.specs.List.{list_all}
-use Rattle.std.proofs.Common.{◌≡◌, ℕ, ◌+◌, ◌-◌, ◌<◌, Bool, true, false, cond, ◌&&◌, ltb, List, [], ◌∷◌, length, get_or, take, drop, Some, None, Ok, Err, Option, ok_or, sym, refl, ap, ◌∙◌, subst, ap₂, arith, ltb-true, lt-ltb, leb-false}
+use Rattle.std.proofs.Common.{◌≡◌, ℕ, ◌+◌, ◌-◌, ◌<◌, Bool, true, false, cond, ltb, List, [], ◌∷◌, length, get_or, take, drop, Some, None, Ok, Err, Option, ok_or, sym, refl, ap, ◌∙◌, subst, arith, ltb-true, leb-false}
 use Rattle.std.proofs.lemmas.Slice.{first_rest}
 use Rattle.refusal.specs.declared.order.OrderFault.TheVariants.{NoneListed, TooLong}
 use Rattle.packet.specs.declared.heads.Head.{Head}
@@ -10,9 +9,10 @@ use Rattle.packet.specs.Routes.{Leads, route_in, read_route, fits_route, write_r
 use Rattle.packet.specs.Heads.{head_word}
 use Rattle.wiring.specs.Shapes.{Shape, Lawful}
 use Rattle.routing.specs.Walks.{walk_of, walk_by, walk_from, walk_to}
-use Rattle.routing.specs.Subtrees.{covers, covers_all}
-use Rattle.routing.specs.Orders.{all_there, mode_for, Lowest, Journey, LeadsTo, TooFar, HeadTo, Serves, Ordered, head_in, head_told}
-use Rattle.routing.proofs.Meeting.{lowest_by, and_parts}
+use Rattle.routing.specs.Subtrees.{covers_all}
+use Rattle.routing.specs.Orders.{all_there, mode_for, Lowest, LowestOf, Journey, LeadsTo, TooFar, HeadTo, Serves, Ordered, head_in, head_told}
+use Rattle.std.proofs.lemmas.Bool.{and_parts, and_from, both_ways}
+use Rattle.routing.proofs.Subtree.{covers_le, root_covers}
 
 route_back : (m : Mode) (b : ℕ) → b < 512 → route_in (head_word m b) ≡ b
 route_back Target b l = omega arith
@@ -48,34 +48,52 @@ module _ (s : Shape) (c t : ℕ) where
 abbrev pub rest : List ℕ → List ℕ
 rest cs = take (length cs - 1) (drop 1 cs)
 
-all_cons : (f : ℕ → Bool) (x : ℕ) (xs : List ℕ) → list_all f (x ∷ xs) ≡ (f x && list_all f xs)
-all_cons f x xs = refl
+module _ (s : Shape) where
+  pub known : (c : ℕ) (cs : List ℕ) → all_there s (c ∷ cs) ≡ true → (c < s.cards) × (all_there s cs ≡ true)
+  known c cs e =
+      let (a, b) = and_parts (ltb c s.cards) (all_there s cs) e in
+      (ltb-true c s.cards a, b)
 
-pub all_known : (s : Shape) (c : ℕ) (cs : List ℕ) → c < s.cards → all_there s cs ≡ true → all_there s (c ∷ cs) ≡ true
-all_known s c cs l e = all_cons (λ x. ltb x s.cards) c cs ∙ ap₂ (λ (x y : Bool). x && y) (lt-ltb c s.cards l) e
+  -- no card listed
+  pub none_listed : (c : ℕ) (cs : List ℕ) → all_there s (c ∷ cs) ≡ true → length cs < 1 → Ordered s c cs (Err NoneListed)
+  none_listed c [] e l = (e, refl)
+  none_listed c (x ∷ xs) e l = absurd (omega arith)
 
--- no card listed
-pub none_listed : (s : Shape) (c : ℕ) (cs : List ℕ) → c < s.cards → length cs < 1 → Ordered s c cs (Err NoneListed)
-none_listed s c [] m l = (all_known s c [] m refl, refl)
-none_listed s c (x ∷ xs) m l = absurd (omega arith)
+module _ (s : Shape) (L : Lawful s) (c : ℕ) (cs : List ℕ) (l : 0 < length cs) (there : all_there s (c ∷ cs) ≡ true) (o : Option ℕ)
+    (low : LowestOf s (get_or cs 0 0 ∷ rest cs) o) where
+  listed : (get_or cs 0 0 < s.cards) × (all_there s (rest cs) ≡ true)
+  listed = known s (get_or cs 0 0) (rest cs) (ap (all_there s) (sym (first_rest cs 0 l)) ∙ (known s c cs there).1)
 
--- the first of the cards and the others
-pub first_known : (s : Shape) (cs : List ℕ) → 0 < length cs → all_there s cs ≡ true → (get_or cs 0 0 < s.cards) × (all_there s (rest cs) ≡ true)
-first_known s cs l e =
-    let (a, b) = and_parts _ _ (sym (all_cons (λ x. ltb x s.cards) (get_or cs 0 0) (rest cs)) ∙ (ap (all_there s) (sym (first_rest cs 0 l)) ∙ e)) in
-    (ltb-true (get_or cs 0 0) s.cards a, b)
+  root_all : (xs : List ℕ) → all_there s xs ≡ true → covers_all s 0 xs ≡ true
+  root_all [] e = refl
+  root_all (x ∷ xs) e =
+      let (a, b) = known s x xs e in
+      and_from _ _ (root_covers s L x a) (root_all xs b)
 
-module _ (s : Shape) (L : Lawful s) (c : ℕ) (cs : List ℕ) (l : 0 < length cs) (t : ℕ)
-    (meets : (u : ℕ) → covers s u t ≡ (covers s u (get_or cs 0 0) && covers_all s u (rest cs))) where
-  lowest_listed : Lowest s cs t
-  unfolding covers_all
-  lowest_listed = lowest_by s L cs t (λ u. meets u ∙ ap (covers_all s u) (sym (first_rest cs 0 l)))
+  -- card 0 stands over them all
+  pub some_lowest : o ≡ None → ⊥
+  some_lowest e =
+      let f : LowestOf s (get_or cs 0 0 ∷ rest cs) None = rw e at low in
+      both_ways _ (f 0) (and_from _ _ (root_covers s L (get_or cs 0 0) listed.0) (root_all (rest cs) listed.1))
 
-  served : (h : ℕ) (m : Mode) → m ≡ mode_for (get_or cs 0 0 ∷ rest cs) → LeadsTo s c t m h → Serves s c cs h
-  served h m e k =
-      record { terminus = t; lowest = lowest_listed; leads = subst (λ (x : Mode). LeadsTo s c t x h) (e ∙ ap mode_for (sym (first_rest cs 0 l))) k }
+  module _ (t : ℕ) (e : o ≡ Some t) where
+    lowest_split : Lowest s (get_or cs 0 0 ∷ rest cs) t
+    lowest_split = rw e at low
 
-  -- the answer where all are cards and one is listed: the head, or that there is none
-  pub answered : (m : Mode) (o : Option Head) → all_there s (c ∷ cs) ≡ true → m ≡ mode_for (get_or cs 0 0 ∷ rest cs) → HeadTo s c t m (head_in o) → Ordered s c cs (head_told (ok_or o TooLong))
-  answered m (Some h) k e w = (k, served (head_word h.mode h.route.bits) m e w)
-  answered m None k e w = (k, record { terminus = t; lowest = lowest_listed; far = w })
+    pub lowest_there : t < s.cards
+    lowest_there =
+        let k = covers_le s L t (get_or cs 0 0) (and_parts _ _ lowest_split.has).0 in
+        let (a, b) = listed in
+        omega arith
+
+    lowest_listed : Lowest s cs t
+    lowest_listed = subst (λ (xs : List ℕ). Lowest s xs t) (sym (first_rest cs 0 l)) lowest_split
+
+    served : (h : ℕ) (m : Mode) → m ≡ mode_for (get_or cs 0 0 ∷ rest cs) → LeadsTo s c t m h → Serves s c cs h
+    served h m q k =
+        record { terminus = t; lowest = lowest_listed; leads = subst (λ (x : Mode). LeadsTo s c t x h) (q ∙ ap mode_for (sym (first_rest cs 0 l))) k }
+
+    -- the answer where all are cards and one is listed: the head, or that there is none
+    pub answered : (m : Mode) (a : Option Head) → m ≡ mode_for (get_or cs 0 0 ∷ rest cs) → HeadTo s c t m (head_in a) → Ordered s c cs (head_told (ok_or a TooLong))
+    answered m (Some h) q w = (there, served (head_word h.mode h.route.bits) m q w)
+    answered m None q w = (there, record { terminus = t; lowest = lowest_listed; far = w })

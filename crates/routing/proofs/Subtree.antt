@@ -1,5 +1,6 @@
 -- Which cards stand above which.
 use Rattle.std.proofs.Common.{◌≡◌, ℕ, zero, suc, ◌<◌, ◌≤◌, Bool, true, false, ◌||◌, eqb, is_some, Some, None, Option, sym, refl, ap, ◌∙◌, arith, eq-eqb, ne_eqb, eqb-true}
+use Rattle.std.proofs.lemmas.Bool.{or_right, eqb-false}
 use Rattle.packet.specs.declared.sides.Side.{Side}
 use Rattle.wiring.specs.Shapes.{Shape, Lawful}
 use Rattle.routing.specs.Subtrees.{of_parent, covers_in, covers}
@@ -67,6 +68,24 @@ module _ (s : Shape) (L : Lawful s) where
       by None q x = absurd (let y : false ≡ true = ap is_some (sym q) ∙ x in grind arith)
       by (Some (p, b)) q x = (p, b, q)
 
+  -- card 0 stands over every card
+  root_in : (k d : ℕ) → d < k → d < s.cards → covers_in s k 0 d ≡ true
+  unfolding covers_in
+  root_in zero d h l = absurd (omega arith)
+  root_in (suc k) d h l = by (eqb 0 d) refl (λ p. root_in k p)
+    where
+      by : (x : Bool) → eqb 0 d ≡ x → ((p : ℕ) → p < k → p < s.cards → covers_in s k 0 p ≡ true) → (x || of_parent (covers_in s k 0) (s.parent d)) ≡ true
+      by true q ih = refl
+      by false q ih =
+          let z : 0 < d = let n = eqb-false 0 d q in omega arith in
+          let (p, b, e) = parent_of d z l in
+          let u = (L.below d p b e).0 in
+          ap (of_parent (covers_in s k 0)) e ∙ ih p (omega arith) (omega arith)
+
+  pub root_covers : (d : ℕ) → d < s.cards → covers s 0 d ≡ true
+  unfolding covers
+  root_covers d l = root_in s.cards d l l
+
   -- a card without a parent is covered by itself alone
   pub covers_none : (t d : ℕ) → t < d → None ≡ s.parent d → false ≡ covers s t d
   covers_none t d l e =
@@ -79,3 +98,17 @@ module _ (s : Shape) (L : Lawful s) where
       by : (x : Bool) → covers s t d ≡ x → eqb d t ≡ covers s t d
       by true e = eq-eqb d t (let u = covers_le t d e in omega arith) ∙ sym e
       by false e = ne_eqb d t (λ q. absurd (let z : true ≡ false = sym (covers_self t) ∙ (ap (covers s t) (sym q) ∙ e) in grind arith)) ∙ sym e
+
+  -- what stands over a card stands over all below it
+  in_over : (k u t d : ℕ) → covers s u t ≡ true → covers_in s k t d ≡ true → covers s u d ≡ true
+  unfolding covers_in
+  in_over zero u t d a e = absurd (grind arith)
+  in_over (suc k) u t d a e = or_cases (eqb t d) (of_parent (covers_in s k t) (s.parent d)) e (λ q. ap (covers s u) (sym (eqb-true t d q)) ∙ a) (λ q. parents (s.parent d) refl q (λ p. in_over k u t p a))
+    where
+      parents : (o : Option (ℕ × Side)) → s.parent d ≡ o → of_parent (covers_in s k t) o ≡ true → ((p : ℕ) → covers_in s k t p ≡ true → covers s u p ≡ true) → covers s u d ≡ true
+      parents None q x ih = absurd (grind arith)
+      parents (Some (p, b)) q x ih = covers_up u d p b q ∙ or_right (eqb u d) (covers s u p) (ih p x)
+
+  pub covers_over : (u t d : ℕ) → covers s u t ≡ true → covers s t d ≡ true → covers s u d ≡ true
+  unfolding covers
+  covers_over u t d a e = in_over s.cards u t d a e

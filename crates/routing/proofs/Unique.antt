@@ -158,7 +158,6 @@ module _ (s : Shape) (L : Lawful s) where
       omega arith
 
   listed : (cs : List ℕ) (t : ℕ) → cs ≡ [] → Lowest s cs t → ⊥
-  unfolding covers_all
   listed cs t e k = let l = covers_le s L (suc t) t (k.above (suc t) (ap (covers_all s (suc t)) e)) in omega arith
 
   serves_one : (c : ℕ) (cs : List ℕ) (h k : ℕ) → Serves s c cs h → Serves s c cs k → h ≡ k

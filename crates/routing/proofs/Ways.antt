@@ -1,11 +1,12 @@
 -- Ways up and down between a card and one that stands over it.
 use Rattle.std.proofs.Common.{◌≡◌, ℕ, zero, suc, ◌+◌, ◌<◌, ◌≤◌, Bool, true, false, cond, eqb, ltb, List, [], ◌∷◌, ◌++◌, length, Some, None, Ok, Option, sym, refl, ap, ◌∙◌, arith, length-append, ltb-false, eqb-true}
+use Rattle.std.proofs.lemmas.Bool.{both_ways}
 use Rattle.packet.specs.declared.sides.Side.{Side}
 use Rattle.packet.specs.Courses.{sides_before}
 use Rattle.wiring.specs.Shapes.{Shape, Lawful}
 use Rattle.routing.specs.Walks.{from_parent, climb, from_daughter, descend}
 use Rattle.routing.specs.Subtrees.{of_parent, covers_in, covers}
-use Rattle.routing.proofs.Subtree.{or_cases, covers_le, covers_other}
+use Rattle.routing.proofs.Subtree.{or_cases, covers_le, covers_none, covers_other}
 
 module _ (s : Shape) where
   pub climb_none : (c : ℕ) → climb s 0 c ≡ Some c
@@ -80,8 +81,8 @@ module _ (s : Shape) where
         (w ++ (b ∷ ss), descend-append w (b ∷ ss) u p f ∙ descend_front ss b d p t q e, rw length-append (omega arith))
 
     -- below the top there is a parent, still under the top
-    pub under : (t d : ℕ) → covers s t d ≡ true → (d ≡ t → ⊥) → 0 < d
-    under t d e n = let l = covers_le s L t d e in omega arith
+    pub has_parent : (t d : ℕ) → covers s t d ≡ true → (d ≡ t → ⊥) → None ≡ s.parent d → ⊥
+    has_parent t d e n q = both_ways _ (sym (covers_none s L t d (let l = covers_le s L t d e in omega arith) q)) e
 
     pub still_under : (t d p : ℕ) (b : Side) → covers s t d ≡ true → (d ≡ t → ⊥) → s.parent d ≡ Some (p, b) → covers s t p ≡ true
     still_under t d p b e n q = sym (covers_other s L t d p b q (λ z. n (sym z))) ∙ e

@@ -29,6 +29,11 @@ pub record Lowest (s : Shape) (cs : List ℕ) (t : ℕ) : Type 0 where
   pub has : covers_all s t cs ≡ true
   pub above : (u : ℕ) → covers_all s u cs ≡ true → covers s u t ≡ true
 
+-- the lowest card over all of these, or none where no card's subtree has them all
+abbrev pub LowestOf : Shape → List ℕ → Option ℕ → Type 0
+LowestOf s cs (Some t) = Lowest s cs t
+LowestOf s cs None = (u : ℕ) → covers_all s u cs ≡ false
+
 -- a way from a sender to a terminus: up to the lowest card over both, and down
 pub record Journey (s : Shape) (sender terminus ups : ℕ) (sides : List Side) : Type 0 where
   pub turn : ℕ

@@ -1,5 +1,6 @@
 -- The subtree of a card, its size, and the hops of a packet.
-use Rattle.std.specs.Prelude.{ℕ, zero, suc, ◌+◌, ◌*◌, Bool, true, false, cond, ◌&&◌, ◌||◌, List, [], ◌∷◌, Some, None, Option, ◌==◌}
+use Rattle.std.specs.Prelude.{ℕ, zero, suc, ◌+◌, ◌*◌, Bool, false, cond, ◌||◌, List, Some, None, Option, ◌==◌}
+use Rattle.std.specs.List.{list_all}
 use Rattle.packet.specs.declared.sides.Side.{Side}
 use Rattle.packet.specs.declared.heads.Mode.{Mode}
 use Rattle.packet.specs.declared.heads.Mode.TheVariants.{Target, Flood}
@@ -21,9 +22,8 @@ unfoldable pub covers : Shape → ℕ → ℕ → Bool
 covers s t d = covers_in s s.cards t d
 
 -- the subtree of card t has all these cards
-unfoldable pub covers_all : Shape → ℕ → List ℕ → Bool
-covers_all s t [] = true
-covers_all s t (c ∷ cs) = covers s t c && covers_all s t cs
+abbrev pub covers_all : Shape → ℕ → List ℕ → Bool
+covers_all s t cs = list_all (covers s t) cs
 
 -- how many numbers below n pass the test
 unfoldable pub count_below : ℕ → (ℕ → Bool) → ℕ

@@ -1,58 +1,41 @@
 // The route maker: the head of a packet from a sender to a list of cards, over any wiring.
-ghost use Rattle.std.specs.Prelude.{◌≡◌, ℕ, ◌<◌, true, ◌&&◌, ◌∷◌, Some, Result, nat_lt};
+ghost use Rattle.std.specs.Prelude.{◌≡◌, ℕ, ◌<◌, true, [], ◌∷◌, Some, Result};
 ghost use Rattle.refusal.specs.declared.order.OrderFault.{OrderFault};
 ghost use Rattle.packet.specs.Courses.{sides_told, course_told};
 ghost use Rattle.routing.specs.Walks.{climb};
-ghost use Rattle.routing.specs.Subtrees.{covers, covers_all};
-ghost use Rattle.std.specs.List.{list_all};
-ghost use Rattle.routing.specs.Orders.{mode_for, WayDown, CourseTo, HeadTo, head_in, Ordered, head_told};
+ghost use Rattle.routing.specs.Subtrees.{covers};
+ghost use Rattle.routing.specs.Orders.{all_there, mode_for, LowestOf, WayDown, CourseTo, HeadTo, head_in, Ordered, head_told};
 
 use crate::ancestors::up_from;
 use packet::{Course, Head, Mode, Side, Sides};
 use refusal::OrderFault;
 use wiring::Wiring;
 
-// The parent of any card but card 0, and the card's side.
-fn parent_of<W: Wiring>(wiring: &W, card: u16) -> (u16, Side)
-    requires { (0 < card) × (card < (W.shape wiring.now).cards) }
-    ensures { (W.shape wiring.now).parent card ≡ Some result }
-{
-    match wiring.parent(card) {
-        Some(parent) => parent,
-        None => unreachable(),
-    }
-}
-
-// The lowest card over both: of two cards the one with the higher number is not above the other, so it goes up.
-fn meet<W: Wiring>(wiring: &W, a: u16, b: u16) -> u16
-    requires { (a < (W.shape wiring.now).cards) × (b < (W.shape wiring.now).cards) }
-    ensures meets { (u : ℕ) → covers (W.shape wiring.now) u result ≡ (covers (W.shape wiring.now) u a && covers (W.shape wiring.now) u b) }
-    ensures within { result < (W.shape wiring.now).cards }
+// The lowest card over both, if there is one: of two cards the one with the higher number is not above the other, so it goes up.
+fn meet<W: Wiring>(wiring: &W, a: u16, b: u16) -> Option<u16>
+    ensures { LowestOf (W.shape wiring.now) (a ∷ b ∷ []) result }
 {
     let mut x = a;
     let mut y = b;
     while x != y {
         if x > y {
-            x = parent_of(wiring, x).0;
+            x = wiring.parent(x)?.0;
         } else {
-            y = parent_of(wiring, y).0;
+            y = wiring.parent(y)?.0;
         }
     }
-    x
+    Some(x)
 }
 
-// The lowest card over this one and all the others.
-fn lowest<W: Wiring>(wiring: &W, first: u16, others: &[u16]) -> u16
-    requires first { first < (W.shape wiring.now).cards }
-    requires others { list_all (λ c. nat_lt c (W.shape wiring.now).cards) others.now ≡ true }
-    ensures meets { (u : ℕ) → covers (W.shape wiring.now) u result ≡ (covers (W.shape wiring.now) u first && covers_all (W.shape wiring.now) u others.now) }
-    ensures within { result < (W.shape wiring.now).cards }
+// The lowest card over this one and all the others, if there is one.
+fn lowest<W: Wiring>(wiring: &W, first: u16, others: &[u16]) -> Option<u16>
+    ensures { LowestOf (W.shape wiring.now) (first ∷ others.now) result }
 {
     let mut over = first;
     for card in others {
-        over = meet(wiring, over, *card);
+        over = meet(wiring, over, *card)?;
     }
-    over
+    Some(over)
 }
 
 // How many links it is up from this card to one that stands over it.
@@ -67,14 +50,14 @@ fn links_up<W: Wiring>(wiring: &W, card: u16, top: u16) -> u16
 
 // The sides of the way down to this card from one that stands over it, or none where there are too many.
 fn sides_down<W: Wiring>(wiring: &W, top: u16, card: u16) -> Option<Sides>
-    requires within { card < (W.shape wiring.now).cards }
-    requires over { covers (W.shape wiring.now) top card ≡ true }
+    requires { covers (W.shape wiring.now) top card ≡ true }
     ensures { WayDown (W.shape wiring.now) top card (sides_told result) }
 {
     let mut at = card;
     let mut sides = Sides::none();
     while at != top {
-        let (parent, side) = parent_of(wiring, at);
+        // A card below the top has a parent.
+        let (parent, side) = wiring.parent(at)?;
         sides = sides.after(side)?;
         at = parent;
     }
@@ -87,7 +70,8 @@ fn course_to<W: Wiring>(wiring: &W, sender: u16, terminus: u16) -> Option<Course
     requires terminus { terminus < (W.shape wiring.now).cards }
     ensures { CourseTo (W.shape wiring.now) sender terminus (course_told result) }
 {
-    let turn = meet(wiring, sender, terminus);
+    // Card 0 stands over both, so there is a lowest.
+    let turn = meet(wiring, sender, terminus)?;
     let ups = links_up(wiring, sender, turn);
     let sides = sides_down(wiring, turn, terminus)?;
     Some(Course { ups, sides })
@@ -115,18 +99,26 @@ fn mode_for(first: u16, others: &[u16]) -> Mode
     }
 }
 
+// Whether the sender and all these cards are there.
+fn all_there<W: Wiring>(wiring: &W, sender: u16, cards: &[u16]) -> bool
+    ensures { result ≡ all_there (W.shape wiring.now) (sender ∷ cards.now) }
+{
+    let n = wiring.cards();
+    sender < n && cards.iter().all(|card| *card < n)
+}
+
 // The head of a packet from the sender to these cards. An order has no other answer.
 pub fn order<W: Wiring>(wiring: &W, sender: u16, cards: &[u16]) -> Result<Head, OrderFault>
     ensures answer { Ordered (W.shape wiring.now) sender cards.now (head_told result) }
     ensures only { (q : Result ℕ OrderFault) → Ordered (W.shape wiring.now) sender cards.now q → q ≡ head_told result }
 {
-    let n = wiring.cards();
-    if sender >= n || !cards.iter().all(|card| *card < n) {
+    if !all_there(wiring, sender, cards) {
         return Err(OrderFault::Unknown);
     }
     let [first, others @ ..] = cards else {
         return Err(OrderFault::NoneListed);
     };
-    let terminus = lowest(wiring, *first, others);
+    // Card 0 stands over them all, so there is a lowest.
+    let terminus = lowest(wiring, *first, others).ok_or(OrderFault::Unknown)?;
     head_to(wiring, sender, terminus, mode_for(*first, others)).ok_or(OrderFault::TooLong)
 }

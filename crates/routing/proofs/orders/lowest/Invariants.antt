@@ -1,13 +1,7 @@
-use Rattle.std.specs.List.{list_all}
-use Rattle.std.proofs.Common.{◌≡◌, ℕ, ◌<◌, true, ◌&&◌, ltb, drop}
-use Rattle.routing.specs.Subtrees.{covers, covers_all}
+use Rattle.std.proofs.Common.{◌∷◌, take}
+use Rattle.routing.specs.Orders.{Lowest}
 use Rattle.routing.proofs.orders.lowest.Given as goal
 
--- the same cards stand over this one and what is left of the list
+-- the lowest over the cards that were looked at
 abbrev pub invariant-loop-card : goal.invariant-loop-card
-invariant-loop-card g l =
-    (l.over < (g.W.Wiring.shape l.wiring).cards) ×
-    (list_all (λ c. ltb c (g.W.Wiring.shape l.wiring).cards) (drop l.card-index l.others) ≡ true) ×
-    ((u : ℕ) →
-    (covers (g.W.Wiring.shape l.wiring) u l.over && covers_all (g.W.Wiring.shape l.wiring) u (drop l.card-index l.others)) ≡
-    (covers (g.W.Wiring.shape l.wiring) u l.first && covers_all (g.W.Wiring.shape l.wiring) u l.others))
+invariant-loop-card g l = Lowest (g.W.Wiring.shape l.wiring) (l.first ∷ take l.card-index l.others) l.over
