@@ -1,6 +1,6 @@
 // The two stations of a card, their inputs, and how a station stands.
 ghost use Rattle.std.specs.Prelude.{◌≡◌};
-ghost use Rattle.station.specs.Holds.{input_number, merge_held, merge, after};
+ghost use Rattle.station.specs.Holds.{merge_held, merge, after};
 
 use packet::Kind;
 use refusal::FireFault;
@@ -13,28 +13,13 @@ pub enum Station {
 }
 
 // The inputs of the stations: the up station has the first three, the down station the last two.
-#[derive(Clone, Copy)]
+#[derive(Clone, Copy, PartialEq, Eq)]
 pub enum Input {
     Left,
     Right,
     Queue,
     Parent,
     Turn,
-}
-
-impl Input {
-    // The place of an input in the list of all.
-    fn number(self) -> u8
-        ensures { result ≡ input_number self }
-    {
-        match self {
-            Input::Left => 0,
-            Input::Right => 1,
-            Input::Queue => 2,
-            Input::Parent => 3,
-            Input::Turn => 4,
-        }
-    }
 }
 
 // What becomes of a word at the card itself: it only goes on, or it is dropped, or this word enters the inbox.
@@ -46,7 +31,7 @@ pub enum Here {
 }
 
 // How a station stands: free, or held for an input by a packet, whose head is kept as it came. A down station at which the packet stops
-// drops or accepts it, once its key word has passed.
+// drops or accepts it, once its key word has passed. Three variants with the same fields, since the laws of the network speak of each by name.
 #[derive(Clone, Copy)]
 pub enum Hold<I> {
     Free,
@@ -64,24 +49,9 @@ impl Hold<Input> {
             (Hold::Free, Kind::Head) => Ok(()),
             (Hold::Free, _) => Err(FireFault::NothingWaits),
             (
-                Hold::Held {
-                    input: holder,
-                    head: _,
-                },
-                kind,
-            ) => later(holder, input, kind),
-            (
-                Hold::Dropping {
-                    input: holder,
-                    head: _,
-                },
-                kind,
-            ) => later(holder, input, kind),
-            (
-                Hold::Accepting {
-                    input: holder,
-                    head: _,
-                },
+                Hold::Held { input: holder, .. }
+                | Hold::Dropping { input: holder, .. }
+                | Hold::Accepting { input: holder, .. },
                 kind,
             ) => later(holder, input, kind),
         }
@@ -92,7 +62,7 @@ impl Hold<Input> {
 fn later(holder: Input, input: Input, kind: Kind) -> Result<(), FireFault>
     ensures { result ≡ merge_held holder input kind }
 {
-    if holder.number() != input.number() {
+    if holder != input {
         return Err(FireFault::HeldByOther);
     }
     match kind {

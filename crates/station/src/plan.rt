@@ -21,12 +21,11 @@ impl Plan {
     pub fn sum(&self) -> u8
         ensures { result ≡ sum_of self.now }
     {
-        let up = if self.up { 1 } else { 0 };
-        let turn = if self.turn { 2 } else { 0 };
-        let left = if let Some(_) = self.left { 4 } else { 0 };
-        let right = if let Some(_) = self.right { 8 } else { 0 };
-        let inbox = if let Here::Kept(_) = self.here { 16 } else { 0 };
-        up + turn + left + right + inbox
+        u8::from(self.up)
+            + 2 * u8::from(self.turn)
+            + 4 * u8::from(self.left.is_some())
+            + 8 * u8::from(self.right.is_some())
+            + 16 * u8::from(matches!(self.here, Here::Kept(_)))
     }
 }
 
@@ -50,8 +49,8 @@ pub fn up_plan(card: u16, hold: Hold<Input>, word: u32) -> Plan
 {
     match hold {
         Hold::Free => up_by(card, top_bit(word), advance(word)),
-        Hold::Held { input: _, head } => up_by(card, top_bit(head), word),
-        Hold::Dropping { input: _, head } => up_by(card, top_bit(head), word),
-        Hold::Accepting { input: _, head } => up_by(card, top_bit(head), word),
+        Hold::Held { head, .. } | Hold::Dropping { head, .. } | Hold::Accepting { head, .. } => {
+            up_by(card, top_bit(head), word)
+        }
     }
 }
