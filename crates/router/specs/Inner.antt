@@ -5,7 +5,7 @@ use Rattle.refusal.specs.declared.send.PacketFault.{PacketFault}
 use Rattle.wiring.specs.Shapes.{Shape}
 use Rattle.routing.specs.Subtrees.{path_hops}
 use Rattle.station.specs.declared.channel.Channel.{Channel}
-use Rattle.store.specs.Bounds.{channel_card}
+use Rattle.station.specs.Channels.{channel_card}
 use Rattle.network.specs.Cards.{queue_room}
 use Rattle.network.specs.Sends.{Way}
 use Rattle.router.specs.declared.way.Way.{Way as WayFound}

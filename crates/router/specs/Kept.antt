@@ -6,7 +6,6 @@ use Rattle.network.specs.Cards.{State}
 use Rattle.network.specs.Owed.{hops_owed}
 use Rattle.network.specs.Runs.{Call, run, Reached}
 use Rattle.network.specs.Laws.{Laws}
-use Rattle.store.specs.Views.{state_of}
 use Rattle.router.specs.declared.tree.Tree.{Tree}
 
 -- what a tree means: its wiring, its policy, its cards, and its kept number of hops
@@ -21,7 +20,7 @@ meaning s v x n = record { shape = s; verdicts = v; cards = x; owed = n }
 
 -- what a tree in hand means, by what its wiring and its policy mean
 abbrev pub tree_of : {W P : Type 0} → (W → Shape) → (P → Verdicts) → Tree W P → Meaning
-tree_of shape verdict t = meaning (shape t.wiring) (verdict t.policy) (state_of t.table) t.owed
+tree_of shape verdict t = meaning (shape t.wiring) (verdict t.policy) t.table t.owed
 
 -- these calls, made since setting up, have led to the tree: to its cards, and its kept number is the hops owed there
 pub record Led (ks : List Call) (m : Meaning) : Type 0 where

@@ -1,8 +1,8 @@
 // What the calls are made of: the checks, the plan of a fire, and its writes.
 ghost use Rattle.std.specs.Prelude.{◌≡◌, ℕ, ◌+◌, ◌-◌, ◌<◌, ◌≤◌, length, Some, Ok};
+ghost use Rattle.station.specs.Channels.{channel_card};
 ghost use Rattle.station.specs.Plans.{down_by, judged, downward, planned};
-ghost use Rattle.store.specs.Views.{state_of};
-ghost use Rattle.store.specs.Bounds.{channel_card, Within};
+ghost use Rattle.store.specs.Bounds.{Within};
 ghost use Rattle.network.specs.Cards.{card_at};
 ghost use Rattle.network.specs.Fires.{located, hold_at, passing};
 ghost use Rattle.router.specs.Inner.{InTable, lowered};
@@ -74,25 +74,22 @@ impl<W: Wiring, P: Policy> Tree<W, P> {
         ensures plan { result ≡ down_by (W.Wiring.shape self.now.wiring) card head word here }
         ensures inside { Within 31 result }
     {
-        let mut plan = Plan {
+        let left = self.daughter(card, Side::Left);
+        let right = self.daughter(card, Side::Right);
+        let (left, right) = match (stops(head), floods(head), top_bit(head)) {
+            (true, true, _) => (left, right),
+            (true, false, _) => (None, None),
+            (false, _, true) => (None, right),
+            (false, _, false) => (left, None),
+        };
+        Plan {
             up: false,
             turn: false,
-            left: None,
-            right: None,
+            left,
+            right,
             word,
             here,
-        };
-        if stops(head) {
-            if floods(head) {
-                plan.left = self.daughter(card, Side::Left);
-                plan.right = self.daughter(card, Side::Right);
-            }
-        } else if top_bit(head) {
-            plan.right = self.daughter(card, Side::Right);
-        } else {
-            plan.left = self.daughter(card, Side::Left);
         }
-        plan
     }
 
     // What the down station does with a word.
@@ -116,7 +113,7 @@ impl<W: Wiring, P: Policy> Tree<W, P> {
     // Up or down.
     fn plan(&self, card: u16, station: Station, word: u32) -> Plan
         requires { card < 31 }
-        ensures plan { result ≡ planned (W.Wiring.shape self.now.wiring) (P.Policy.verdict self.now.policy) card station (hold_at (state_of self.now.table) card station) word }
+        ensures plan { result ≡ planned (W.Wiring.shape self.now.wiring) (P.Policy.verdict self.now.policy) card station (hold_at self.now.table card station) word }
         ensures inside { Within 31 result }
     {
         match station {
@@ -135,20 +132,17 @@ impl<W: Wiring, P: Policy> Tree<W, P> {
         word: u32,
     ) -> Result<u8, FireFault>
         requires { (card < 31) × (channel_card from < 31) }
-        ensures answer { result ≡ (passing (W.Wiring.shape self.old.wiring) (P.Policy.verdict self.old.policy) (state_of self.old.table) card station input from word).answer }
-        ensures next { state_of self.new.table ≡ (passing (W.Wiring.shape self.old.wiring) (P.Policy.verdict self.old.policy) (state_of self.old.table) card station input from word).next }
+        ensures answer { result ≡ (passing (W.Wiring.shape self.old.wiring) (P.Policy.verdict self.old.policy) self.old.table card station input from word).answer }
+        ensures next { self.new.table ≡ (passing (W.Wiring.shape self.old.wiring) (P.Policy.verdict self.old.policy) self.old.table card station input from word).next }
         ensures same { (self.new.wiring ≡ self.old.wiring) × (self.new.policy ≡ self.old.policy) }
         ensures owed { self.new.owed ≡ lowered self.old.owed result }
     {
         self.table.admits(card, station, input, word)?;
         let plan = self.plan(card, station, word);
         self.table.check(card, &plan)?;
-        self.table.keep(card, &plan.here);
+        self.table.keep(card, plan.here);
         self.table.consume(from);
-        self.table.write_uplink(card, plan.up, plan.word);
-        self.table.write_turnlink(card, plan.turn, plan.word);
-        self.table.write_downlink(&plan.left, plan.word);
-        self.table.write_downlink(&plan.right, plan.word);
+        self.table.write(card, &plan);
         self.table.pass(card, station, input, word, plan.here);
         self.owed = self.owed.saturating_sub(1);
         Ok(plan.sum())

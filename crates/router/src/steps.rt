@@ -1,6 +1,5 @@
 // Each call's answer and its next tree.
 ghost use Rattle.std.specs.Prelude.{◌≡◌, ◌+◌, ◌≤◌, length, Ok};
-ghost use Rattle.store.specs.Views.{state_of};
 ghost use Rattle.network.specs.Cards.{card_at};
 ghost use Rattle.network.specs.Sends.{send_way, send_step};
 ghost use Rattle.network.specs.Fires.{fire_step};
@@ -19,8 +18,8 @@ use wiring::Wiring;
 impl<W: Wiring, P: Policy> Tree<W, P> {
     // The way of a packet that may be queued, or why it may not: the card, the packet, its route, and room in the queue, in this order.
     fn way(&self, card: u16, packet: &[u32]) -> Result<Way, PacketFault>
-        ensures way { way_told result ≡ send_way (W.Wiring.shape self.now.wiring) (length (card_at (state_of self.now.table) card).queue) card packet.now }
-        ensures room { Roomy (W.Wiring.shape self.now.wiring).cards card (length (card_at (state_of self.now.table) card).queue + length packet.now) result }
+        ensures way { way_told result ≡ send_way (W.Wiring.shape self.now.wiring) (length (card_at self.now.table card).queue) card packet.now }
+        ensures room { Roomy (W.Wiring.shape self.now.wiring).cards card (length (card_at self.now.table card).queue + length packet.now) result }
     {
         if card >= self.wiring.cards() {
             return Err(PacketFault::NoSender);
@@ -38,10 +37,10 @@ impl<W: Wiring, P: Policy> Tree<W, P> {
 
     // A send: the whole packet is queued, or nothing is.
     pub(crate) fn send_step(&mut self, card: u16, packet: &[u32]) -> Result<(), PacketFault>
-        ensures answer { result ≡ (send_step (W.Wiring.shape self.old.wiring) (state_of self.old.table) card packet.now).answer }
-        ensures next { state_of self.new.table ≡ (send_step (W.Wiring.shape self.old.wiring) (state_of self.old.table) card packet.now).next }
+        ensures answer { result ≡ (send_step (W.Wiring.shape self.old.wiring) self.old.table card packet.now).answer }
+        ensures next { self.new.table ≡ (send_step (W.Wiring.shape self.old.wiring) self.old.table card packet.now).next }
         ensures same { (self.new.wiring ≡ self.old.wiring) × (self.new.policy ≡ self.old.policy) }
-        ensures owed { self.new.owed ≡ raised (W.Wiring.shape self.old.wiring) self.old.owed (length packet.now) (send_way (W.Wiring.shape self.old.wiring) (length (card_at (state_of self.old.table) card).queue) card packet.now) }
+        ensures owed { self.new.owed ≡ raised (W.Wiring.shape self.old.wiring) self.old.owed (length packet.now) (send_way (W.Wiring.shape self.old.wiring) (length (card_at self.old.table card).queue) card packet.now) }
     {
         let way = self.way(card, packet)?;
         let hops = path_hops(&self.wiring, way.mode, &way.walk, packet.len() as u16);
@@ -57,8 +56,8 @@ impl<W: Wiring, P: Policy> Tree<W, P> {
         station: Station,
         input: Input,
     ) -> Result<u8, FireFault>
-        ensures answer { result ≡ (fire_step (W.Wiring.shape self.old.wiring) (P.Policy.verdict self.old.policy) (state_of self.old.table) card station input).answer }
-        ensures next { state_of self.new.table ≡ (fire_step (W.Wiring.shape self.old.wiring) (P.Policy.verdict self.old.policy) (state_of self.old.table) card station input).next }
+        ensures answer { result ≡ (fire_step (W.Wiring.shape self.old.wiring) (P.Policy.verdict self.old.policy) self.old.table card station input).answer }
+        ensures next { self.new.table ≡ (fire_step (W.Wiring.shape self.old.wiring) (P.Policy.verdict self.old.policy) self.old.table card station input).next }
         ensures same { (self.new.wiring ≡ self.old.wiring) × (self.new.policy ≡ self.old.policy) }
         ensures owed { self.new.owed ≡ lowered self.old.owed result }
     {
@@ -72,8 +71,8 @@ impl<W: Wiring, P: Policy> Tree<W, P> {
 
     // A take: the oldest word of an inbox.
     pub(crate) fn take_step(&mut self, card: u16) -> Result<u32, TakeFault>
-        ensures answer { result ≡ (take_step (W.Wiring.shape self.old.wiring) (state_of self.old.table) card).answer }
-        ensures next { state_of self.new.table ≡ (take_step (W.Wiring.shape self.old.wiring) (state_of self.old.table) card).next }
+        ensures answer { result ≡ (take_step (W.Wiring.shape self.old.wiring) self.old.table card).answer }
+        ensures next { self.new.table ≡ (take_step (W.Wiring.shape self.old.wiring) self.old.table card).next }
         ensures same { (self.new.wiring ≡ self.old.wiring) × (self.new.policy ≡ self.old.policy) }
         ensures owed { self.new.owed ≡ self.old.owed }
     {

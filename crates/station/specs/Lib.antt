@@ -1,2 +1,3 @@
 pub mod Holds
 pub mod Plans
+pub mod Channels

@@ -1,6 +1,6 @@
 -- Words round a ring of 64 places.
-use Rattle.std.proofs.Common.{◌≡◌, ℕ, zero, suc, ◌+◌, ◌-◌, ◌%◌, ◌<◌, ◌≤◌, ◌≢◌, List, [], ◌∷◌, ◌++◌, length, get_or, set, Some, refl, ap, ◌∙◌, add-zero, arith, get_or-set_other, get_or-set_same}
-use Rattle.network.specs.Cards.{oldest, younger}
+use Rattle.std.proofs.Common.{◌≡◌, ℕ, zero, suc, ◌+◌, ◌-◌, ◌%◌, ◌<◌, ◌≤◌, ◌≢◌, List, [], ◌∷◌, ◌++◌, length, get_or, set, refl, ap, ◌∙◌, add-zero, arith, get_or-set_other, get_or-set_same}
+use Rattle.network.specs.Cards.{younger}
 use Rattle.store.specs.Rings.{around}
 
 pub length-around : (ws : List ℕ) (f n : ℕ) → length (around ws f n) ≡ n
@@ -34,10 +34,9 @@ around_push ws f n w l h =
     let e = around-set ws f n (f + n) w (omega arith) (omega arith) in
     around_more (set ws ((f + n) % 64) w) f n ∙ rw (e, get_or-set_same)
 
--- the oldest word goes, and the ring starts at the next place
-pub popped : (ws : List ℕ) (f n : ℕ) → f < 64 → 0 < n → (Some (get_or ws f 0) ≡ oldest (around ws f n)) × (around ws ((f + 1) % 64) (n - 1) ≡ younger (around ws f n))
-popped ws f zero h k = let z : ⊥ = omega arith in absurd z
-popped ws f (suc n) h k =
-    let e : f % 64 ≡ f = omega arith in
+-- without the oldest word the ring starts at the next place
+pub younger_around : (ws : List ℕ) (f n : ℕ) → around ws ((f + 1) % 64) (n - 1) ≡ younger (around ws f n)
+younger_around ws f zero = refl
+younger_around ws f (suc n) =
     let m : suc n - 1 ≡ n = omega arith in
-    (rw e refl, rw m (around_same ws ((f + 1) % 64) (f + 1) n (omega arith)))
+    rw m (around_same ws ((f + 1) % 64) (f + 1) n (omega arith))

@@ -1,2 +1,1 @@
 mod Around
-mod Written

@@ -1,12 +1,7 @@
 -- The words of a ring.
 use Rattle.std.specs.Prelude.{ℕ, zero, suc, ◌+◌, ◌%◌, List, [], ◌∷◌, slice_index}
-use Rattle.store.specs.declared.ring.Ring.{Ring}
 
 -- n words round the ring, from the place f on
 abbrev pub around : List ℕ → ℕ → ℕ → List ℕ
 around ws f zero = []
 around ws f (suc n) = slice_index ws (f % 64) ∷ around ws (f + 1) n
-
--- the words of a ring, oldest first
-abbrev pub items : Ring → List ℕ
-items r = around r.words r.first r.count

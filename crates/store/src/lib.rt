@@ -2,9 +2,8 @@
 // and what it needs of a caller (a card that is in the table, room in a ring) stands in its `requires`.
 #![tactic(auto)]
 
-mod cards;
-mod moves;
+mod card;
 mod ring;
 mod table;
 
-pub use cards::Table;
+pub use table::Table;

@@ -1,13 +1,82 @@
-// A queue of at most 64 words in fixed memory; freed places are used again. Its methods stand in the file below.
-ghost use Rattle.std.specs.Prelude.{◌<◌, ◌≤◌};
+// A queue of at most 64 words. It stays in fixed memory, where freed places are used again, since no call on a tree may allocate.
+ghost use Rattle.std.specs.Prelude.{◌≡◌, ℕ, ◌+◌, ◌<◌, ◌≤◌, List, [], ◌∷◌, ◌++◌, length};
+ghost use Rattle.network.specs.Cards.{oldest, younger};
+ghost use Rattle.store.specs.Rings.{around};
 
-mod calls;
+use std::marker::Model;
 
-#[derive(Clone, Copy)]
+#[derive(Drop)]
 pub(crate) struct Ring {
     words: [u32; 64],
     first: usize,
     count: usize,
-    ghost place: { first < 64 },
-    ghost few: { count ≤ 64 },
+}
+
+// Clauses see the words, oldest first.
+impl Model for Ring {
+    ghost Value = { List ℕ };
+
+    ghost view = { λ r. around r.words r.first r.count };
+
+    ghost invariant = { λ r. (r.first < 64) × (r.count ≤ 64) };
+}
+
+impl Ring {
+    pub(crate) fn empty() -> Ring
+        ensures { result ≡ [] }
+    {
+        Ring {
+            words: [0; 64],
+            first: 0,
+            count: 0,
+        }
+    }
+
+    // How many words there are.
+    pub(crate) fn len(&self) -> usize
+        ensures words { result ≡ length self.now }
+        ensures few { result ≤ 64 }
+    {
+        self.count
+    }
+
+    pub(crate) fn oldest(&self) -> Option<u32>
+        ensures { result ≡ oldest self.now }
+    {
+        if self.count == 0 {
+            return None;
+        }
+        Some(self.words[self.first])
+    }
+
+    // One word more, behind the others.
+    pub(crate) fn push(&mut self, word: u32)
+        requires { length self.old < 64 }
+        ensures { self.new ≡ self.old ++ word ∷ [] }
+    {
+        let at = (self.first + self.count) % 64;
+        self.words[at] = word;
+        self.count += 1;
+    }
+
+    // The oldest word leaves.
+    pub(crate) fn pop(&mut self) -> Option<u32>
+        ensures word { result ≡ oldest self.old }
+        ensures rest { self.new ≡ younger self.old }
+    {
+        let word = self.oldest()?;
+        self.first = (self.first + 1) % 64;
+        self.count -= 1;
+        Some(word)
+    }
+
+    // All these words, behind the others.
+    pub(crate) fn push_all(&mut self, words: &[u32])
+        requires { length self.old + length words.now ≤ 64 }
+        ensures { self.new ≡ self.old ++ words.now }
+    {
+        for word in words {
+            self.push(*word);
+        }
+    }
 }

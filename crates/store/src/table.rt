@@ -1,110 +1,220 @@
-// Each method of a table makes one write, or reads.
-ghost use Rattle.std.specs.Prelude.{◌≡◌, ◌+◌, ◌<◌, ◌≤◌, [], ◌∷◌, ◌++◌, length};
-ghost use Rattle.station.specs.Holds.{after};
-ghost use Rattle.network.specs.Cards.{empty, card_at, on_card, with_queue, with_inbox, with_up_link, with_turn_link, with_down_link, with_up, with_down, oldest, younger};
-ghost use Rattle.store.specs.Rings.{items};
-ghost use Rattle.store.specs.Views.{state_of};
+// The cards of a tree.
+ghost use Rattle.std.specs.Prelude.{◌≡◌, ℕ, ◌+◌, ◌<◌, ◌≤◌, ◌++◌, false, length, Some, Ok};
+ghost use Rattle.station.specs.Channels.{channel_card};
+ghost use Rattle.station.specs.Holds.{merge};
+ghost use Rattle.network.specs.Cards.{empty, card_at, on_card, with_queue, with_inbox, oldest, younger};
+ghost use Rattle.network.specs.Fires.{waits, hold_at, down_taken, link_taken, inbox_taken, clear, kept, consumed, to_down_link, written, passed};
+ghost use Rattle.store.specs.Bounds.{Within};
 
-use crate::cards::{Card, Table};
-use crate::ring::Ring;
-use station::{Here, Hold, Input};
+use crate::card::Card;
+use refusal::FireFault;
+use station::{Channel, Here, Hold, Input, Plan, Station};
+use std::array;
+use std::marker::Model;
+
+// There is a place for as many cards as a wiring may have.
+#[derive(Drop)]
+pub struct Table {
+    cards: [Card; 31],
+}
+
+// Clauses see the state of the network's definitions.
+impl Model for Table {
+    ghost use Rattle.network.specs.Cards.{State};
+
+    ghost Value = { State };
+
+    ghost view = { λ t. t.cards };
+}
 
 impl Table {
     pub fn empty() -> Table
-        ensures { state_of result ≡ empty }
+        ensures { result ≡ empty }
     {
-        let card = Card {
-            queue: Ring::empty(),
-            inbox: Ring::empty(),
-            uplink: None,
-            turnlink: None,
-            downlink: None,
-            up: Hold::Free,
-            down: Hold::Free,
+        Table {
+            cards: array::from_fn(|_| Card::blank()),
+        }
+    }
+
+    fn card(&self, c: u16) -> &Card
+        requires { c < 31 }
+        ensures { result.now ≡ card_at self.now c }
+    {
+        &self.cards[usize::from(c)]
+    }
+
+    // The word that waits in a channel, or that nothing does.
+    pub fn word_at(&self, from: Channel) -> Result<u32, FireFault>
+        requires { channel_card from < 31 }
+        ensures { result ≡ waits self.now from }
+    {
+        let card = self.card(from.card());
+        let word = match from {
+            Channel::Queued(_) => card.queue.oldest(),
+            Channel::UpLink(_) => card.uplink,
+            Channel::TurnLink(_) => card.turnlink,
+            Channel::DownLink(_) => card.downlink,
         };
-        Table { cards: [card; 31] }
+        word.ok_or(FireFault::NothingWaits)
     }
 
-    pub(crate) fn card(&self, c: u16) -> &Card
+    // The oldest word of an inbox.
+    pub fn first_in(&self, c: u16) -> Option<u32>
         requires { c < 31 }
-        ensures queue { items result.now.queue ≡ (card_at (state_of self.now) c).queue }
-        ensures inbox { items result.now.inbox ≡ (card_at (state_of self.now) c).inbox }
-        ensures uplink { result.now.uplink ≡ (card_at (state_of self.now) c).up_link }
-        ensures turnlink { result.now.turnlink ≡ (card_at (state_of self.now) c).turn_link }
-        ensures downlink { result.now.downlink ≡ (card_at (state_of self.now) c).down_link }
-        ensures up { result.now.up ≡ (card_at (state_of self.now) c).up }
-        ensures down { result.now.down ≡ (card_at (state_of self.now) c).down }
+        ensures { result ≡ oldest (card_at self.now c).inbox }
     {
-        &self.cards[c as usize]
+        self.card(c).inbox.oldest()
     }
 
-    pub(crate) fn set_uplink(&mut self, c: u16, link: Option<u32>)
+    // How many words wait in a queue.
+    pub fn queued(&self, c: u16) -> usize
         requires { c < 31 }
-        ensures { state_of self.new ≡ on_card (state_of self.old) c (with_up_link link) }
+        ensures words { result ≡ length (card_at self.now c).queue }
+        ensures few { result ≤ 64 }
     {
-        self.cards[c as usize].uplink = link;
+        self.card(c).queue.len()
     }
 
-    pub(crate) fn set_turnlink(&mut self, c: u16, link: Option<u32>)
+    // How a station stands.
+    pub fn hold(&self, c: u16, station: Station) -> Hold<Input>
         requires { c < 31 }
-        ensures { state_of self.new ≡ on_card (state_of self.old) c (with_turn_link link) }
+        ensures { result ≡ hold_at self.now c station }
     {
-        self.cards[c as usize].turnlink = link;
+        match station {
+            Station::Up => self.card(c).up,
+            Station::Down => self.card(c).down,
+        }
     }
 
-    pub(crate) fn set_downlink(&mut self, c: u16, link: Option<u32>)
+    // May the word that waits at this input pass?
+    pub fn admits(&self, c: u16, station: Station, input: Input, word: u32) -> Result<(), FireFault>
         requires { c < 31 }
-        ensures { state_of self.new ≡ on_card (state_of self.old) c (with_down_link link) }
+        ensures { result ≡ merge (hold_at self.now c station) input word }
     {
-        self.cards[c as usize].downlink = link;
+        self.hold(c, station).admits(input, word)
     }
 
-    // The up station moves in place.
-    pub(crate) fn pass_up(&mut self, c: u16, input: Input, word: u32, here: Here)
+    fn down_taken(&self, to: Option<u16>) -> bool
+        requires { (d : ℕ) → to ≡ Some d → d < 31 }
+        ensures { result ≡ down_taken self.now to }
+    {
+        to.is_some_and(|d| self.card(d).downlink.is_some())
+    }
+
+    fn link_taken(&self, c: u16, plan: &Plan) -> bool
+        requires { (c < 31) × (Within 31 plan.now) }
+        ensures { result ≡ link_taken self.now c plan.now }
+    {
+        let card = self.card(c);
+        plan.up && card.uplink.is_some()
+            || plan.turn && card.turnlink.is_some()
+            || self.down_taken(plan.left)
+            || self.down_taken(plan.right)
+    }
+
+    fn inbox_taken(&self, c: u16, here: Here) -> bool
         requires { c < 31 }
-        ensures { state_of self.new ≡ on_card (state_of self.old) c (with_up (after (card_at (state_of self.old) c).up input word here)) }
+        ensures { result ≡ inbox_taken self.now c here }
     {
-        self.cards[c as usize].up.pass(input, word, here);
+        matches!(here, Here::Kept(_)) && self.card(c).inbox.len() >= 64
     }
 
-    // The down station moves in place.
-    pub(crate) fn pass_down(&mut self, c: u16, input: Input, word: u32, here: Here)
+    // Is there room for all outputs?
+    pub fn check(&self, c: u16, plan: &Plan) -> Result<(), FireFault>
+        requires { (c < 31) × (Within 31 plan.now) }
+        ensures answer { result ≡ clear self.now c plan.now }
+        ensures room { result ≡ Ok tt → inbox_taken self.now c plan.now.here ≡ false }
+    {
+        if self.link_taken(c, plan) {
+            return Err(FireFault::LinkOccupied);
+        }
+        if self.inbox_taken(c, plan.here) {
+            return Err(FireFault::InboxFull);
+        }
+        Ok(())
+    }
+
+    // The word that is kept enters the inbox.
+    pub fn keep(&mut self, c: u16, here: Here)
+        requires { (c < 31) × (inbox_taken self.old c here ≡ false) }
+        ensures { self.new ≡ kept c here self.old }
+    {
+        if let Here::Kept(word) = here {
+            let card = &mut self.cards[usize::from(c)];
+            card.inbox.push(word);
+        }
+    }
+
+    // The oldest word leaves a channel.
+    pub fn consume(&mut self, from: Channel)
+        requires { channel_card from < 31 }
+        ensures { self.new ≡ consumed from self.old }
+    {
+        let card = &mut self.cards[usize::from(from.card())];
+        match from {
+            Channel::Queued(_) => {
+                card.queue.pop();
+            }
+            Channel::UpLink(_) => card.uplink = None,
+            Channel::TurnLink(_) => card.turnlink = None,
+            Channel::DownLink(_) => card.downlink = None,
+        }
+    }
+
+    // The word is written to every link of the plan.
+    pub fn write(&mut self, c: u16, plan: &Plan)
+        requires { (c < 31) × (Within 31 plan.now) }
+        ensures { self.new ≡ written c plan.now self.old }
+    {
+        let card = &mut self.cards[usize::from(c)];
+        if plan.up {
+            card.uplink = Some(plan.word);
+        }
+        if plan.turn {
+            card.turnlink = Some(plan.word);
+        }
+        self.write_down(plan.left, plan.word);
+        self.write_down(plan.right, plan.word);
+    }
+
+    fn write_down(&mut self, to: Option<u16>, word: u32)
+        requires { (d : ℕ) → to ≡ Some d → d < 31 }
+        ensures { self.new ≡ to_down_link to word self.old }
+    {
+        if let Some(d) = to {
+            let card = &mut self.cards[usize::from(d)];
+            card.downlink = Some(word);
+        }
+    }
+
+    // The station moves in place.
+    pub fn pass(&mut self, c: u16, station: Station, input: Input, word: u32, here: Here)
         requires { c < 31 }
-        ensures { state_of self.new ≡ on_card (state_of self.old) c (with_down (after (card_at (state_of self.old) c).down input word here)) }
+        ensures { self.new ≡ passed c station input word here self.old }
     {
-        self.cards[c as usize].down.pass(input, word, here);
-    }
-
-    // A word enters the inbox.
-    pub(crate) fn receive(&mut self, c: u16, word: u32)
-        requires { (c < 31) × (length (card_at (state_of self.old) c).inbox < 64) }
-        ensures { state_of self.new ≡ on_card (state_of self.old) c (with_inbox ((card_at (state_of self.old) c).inbox ++ (word ∷ []))) }
-    {
-        self.cards[c as usize].inbox.push(word);
-    }
-
-    // The oldest word leaves the queue.
-    pub(crate) fn dequeue(&mut self, c: u16)
-        requires { c < 31 }
-        ensures { state_of self.new ≡ on_card (state_of self.old) c (with_queue (younger (card_at (state_of self.old) c).queue)) }
-    {
-        let _ = self.cards[c as usize].queue.pop();
+        let card = &mut self.cards[usize::from(c)];
+        match station {
+            Station::Up => card.up.pass(input, word, here),
+            Station::Down => card.down.pass(input, word, here),
+        }
     }
 
     // The oldest word leaves the inbox.
     pub fn take(&mut self, c: u16) -> Option<u32>
         requires { c < 31 }
-        ensures word { result ≡ oldest (card_at (state_of self.old) c).inbox }
-        ensures rest { state_of self.new ≡ on_card (state_of self.old) c (with_inbox (younger (card_at (state_of self.old) c).inbox)) }
+        ensures word { result ≡ oldest (card_at self.old c).inbox }
+        ensures rest { self.new ≡ on_card self.old c (with_inbox (younger (card_at self.old c).inbox)) }
     {
-        self.cards[c as usize].inbox.pop()
+        let card = &mut self.cards[usize::from(c)];
+        card.inbox.pop()
     }
 
     // All these words enter the queue.
     pub fn queue_all(&mut self, c: u16, words: &[u32])
-        requires { (c < 31) × (length (card_at (state_of self.old) c).queue + length words.now ≤ 64) }
-        ensures { state_of self.new ≡ on_card (state_of self.old) c (with_queue ((card_at (state_of self.old) c).queue ++ words.now)) }
+        requires { (c < 31) × (length (card_at self.old c).queue + length words.now ≤ 64) }
+        ensures { self.new ≡ on_card self.old c (with_queue ((card_at self.old c).queue ++ words.now)) }
     {
-        self.cards[c as usize].queue.push_all(words);
+        let card = &mut self.cards[usize::from(c)];
+        card.queue.push_all(words);
     }
 }

@@ -1,6 +1,5 @@
 use Rattle.std.proofs.Common.{ap, ◌∙◌}
 use Rattle.network.specs.Runs.{fire}
-use Rattle.store.specs.Views.{state_of}
 use Rattle.router.specs.Inner.{lowered}
 use Rattle.router.proofs.Leading.{same_tree, keeps_to, fire_leads}
 use Rattle.router.proofs.tree.Tree.fire.Goals as goal
@@ -16,5 +15,5 @@ returns g c =
       next = z;
       same = f.same;
       laws = keeps_to (fire c.args.card c.args.station c.args.input) _ _ _ z
-          (fire_leads (g.W.Wiring.shape t.wiring) L (g.P.Policy.verdict t.policy) (state_of t.table) t.owed c.args.card c.args.station c.args.input);
+          (fire_leads (g.W.Wiring.shape t.wiring) L (g.P.Policy.verdict t.policy) t.table t.owed c.args.card c.args.station c.args.input);
     }

@@ -1,5 +1,4 @@
 use Rattle.std.proofs.Common.{refl}
-use Rattle.store.specs.Views.{state_of}
 use Rattle.router.proofs.Leading.{owed_leads}
 use Rattle.router.proofs.tree.Tree.owed.Goals as goal
 
@@ -9,5 +8,5 @@ returns g c =
     record {
       kept = refl;
       walked = λ ks l. l.counted;
-      laws = owed_leads (g.W.Wiring.shape t.wiring) (g.met.W.Wiring.lawful t.wiring) (g.P.Policy.verdict t.policy) (state_of t.table) t.owed;
+      laws = owed_leads (g.W.Wiring.shape t.wiring) (g.met.W.Wiring.lawful t.wiring) (g.P.Policy.verdict t.policy) t.table t.owed;
     }

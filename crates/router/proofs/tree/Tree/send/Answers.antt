@@ -1,6 +1,5 @@
 use Rattle.std.proofs.Common.{ap}
 use Rattle.network.specs.Runs.{send}
-use Rattle.store.specs.Views.{state_of}
 use Rattle.router.proofs.Leading.{same_tree, keeps_to, send_leads}
 use Rattle.router.proofs.tree.Tree.send.Goals as goal
 
@@ -16,5 +15,5 @@ returns g c =
       next = z;
       same = f.same;
       laws = keeps_to (send c.args.card p) _ _ _ z
-          (send_leads (g.W.Wiring.shape t.wiring) L (g.P.Policy.verdict t.policy) (state_of t.table) t.owed c.args.card p);
+          (send_leads (g.W.Wiring.shape t.wiring) L (g.P.Policy.verdict t.policy) t.table t.owed c.args.card p);
     }

@@ -1,6 +1,5 @@
 use Rattle.std.proofs.Common.{ap}
 use Rattle.network.specs.Runs.{take}
-use Rattle.store.specs.Views.{state_of}
 use Rattle.router.proofs.Leading.{same_tree, keeps_to, take-leads}
 use Rattle.router.proofs.tree.Tree.take.Goals as goal
 
@@ -15,5 +14,5 @@ returns g c =
       next = z;
       same = f.same;
       laws = keeps_to (take c.args.card) _ _ _ z
-          (take-leads (g.W.Wiring.shape t.wiring) L (g.P.Policy.verdict t.policy) (state_of t.table) t.owed c.args.card);
+          (take-leads (g.W.Wiring.shape t.wiring) L (g.P.Policy.verdict t.policy) t.table t.owed c.args.card);
     }

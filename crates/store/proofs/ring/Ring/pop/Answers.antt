@@ -1,9 +1,7 @@
-use Rattle.std.proofs.Common.{arith}
-use Rattle.store.proofs.Around.{popped}
+use Rattle.std.proofs.Common.{ap, ◌∙◌}
+use Rattle.network.specs.Cards.{younger}
+use Rattle.store.proofs.Around.{younger_around}
 use Rattle.store.proofs.ring.Ring.pop.Goals as goal
 
-pub returns : goal.returns
-returns c =
-    let s = c.args.self.now in
-    let p = popped s.words s.first s.count (omega arith) (omega arith) in
-    record { word = p.0; rest = p.1 }
+pub returns-clause-rest : goal.returns-clause-rest
+returns-clause-rest c = younger_around _ _ _ ∙ ap younger c.self.view_is
