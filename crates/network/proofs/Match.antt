@@ -146,7 +146,7 @@ module _
     abbrev ds : List ℕ
     ds = delivers P s q w
 
-    abbrev p : Plan
+    abbrev p : Plan ℕ
     p = planned W P (card_of s) (station_of s) d w
 
     maps : map_hold (input_of W s) d ≡ map_hold Some (phase P s o q)
@@ -353,7 +353,7 @@ module _
           by false a = inr (HeldByOther, ap out (merges w f ∙ ap pick a), refuses w ws e f ∙ rw a)
           by true a = last (all_clear y.chan (outs_of W s (q ++ (w ∷ [])))) refl (full (delivers P s q w)) refl
             where
-              plan : Plan
+              plan : Plan ℕ
               plan = p w ws e a
 
               then : Result (Unit {0}) FireFault → Fired

@@ -29,7 +29,7 @@ use Rattle.network.proofs.StationParts.{delivers_by, hold_after, leaves_by, of_v
 use Rattle.network.proofs.Stands.{held_for}
 
 -- the links of a plan of card c
-unfoldable pub links_of : ℕ → Plan → List Channel
+unfoldable pub links_of : ℕ → Plan ℕ → List Channel
 links_of c p = cond p.up (UpLink c ∷ []) [] ++ (cond p.turn (TurnLink c ∷ []) [] ++ (down_link_to p.left ++ down_link_to p.right))
 
 -- the word that enters the inbox, if one does
@@ -66,7 +66,7 @@ module _ (W : Shape) (L : Rooted W) where
   down_word : (c h w : ℕ) (e : Here) → ((down_by W c h w e).word ≡ w) × ((down_by W c h w e).here ≡ e)
   down_word c h w e = ways (stops h) (floods h) (top_bit h)
     where
-      plan : Bool → Bool → Bool → Plan
+      plan : Bool → Bool → Bool → Plan ℕ
       plan a b t = cond a (cond b (fork_to (W.daughter Left c) (W.daughter Right c) w e) (fork_to None None w e)) (cond t (fork_to None (W.daughter Right c) w e) (fork_to (W.daughter Left c) None w e))
 
       ways : (a b t : Bool) → ((plan a b t).word ≡ w) × ((plan a b t).here ≡ e)
@@ -75,7 +75,7 @@ module _ (W : Shape) (L : Rooted W) where
       ways false b true = (refl, refl)
       ways false b false = (refl, refl)
 
-  abbrev plan : Verdicts → Node → Hold Input → ℕ → Plan
+  abbrev plan : Verdicts → Node → Hold Input → ℕ → Plan ℕ
   plan P s d w = planned W P (card_of s) (station_of s) d w
 
   pub plan_links : (P : Verdicts) (s : Node) (d : Hold Input) (w : ℕ) → card_of s < W.cards → links_of (card_of s) (plan P s d w) ≡ outs_by W s d w

@@ -25,7 +25,7 @@ then_still : {A : Type 0} (x : State) (m : Result A FireFault) (k : A → Fired)
 then_still x (Err g) k s f e = refl
 then_still x (Ok a) k s f e = s a f e
 
-carry_still : (x : State) (c : ℕ) (t : Station) (i : Input) (o : Channel) (w : ℕ) (p : Plan) → Still x (carry x c t i o w p)
+carry_still : (x : State) (c : ℕ) (t : Station) (i : Input) (o : Channel) (w : ℕ) (p : Plan ℕ) → Still x (carry x c t i o w p)
 carry_still x c t i o w p = then_still x (clear x c p) (λ _. record { answer = Ok (sum_of p); next = carried c t i o w p x }) (λ a f e. absurd (grind arith))
 
 fire_still : (s : Shape) (v : Verdicts) (x : State) (c : ℕ) (t : Station) (i : Input) → Still x (fire_step s v x c t i)

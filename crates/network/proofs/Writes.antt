@@ -67,7 +67,7 @@ unfolding write_all pour change filled number down_link_to
 down_write x None w = refl
 down_write x (Some d) w = refl
 
-pub written_is : (x : State) (c : ℕ) (p : Plan) → written c p x ≡ write_all x (links_of c p) p.word
+pub written_is : (x : State) (c : ℕ) (p : Plan ℕ) → written c p x ≡ write_all x (links_of c p) p.word
 unfolding links_of
 written_is x c p =
     let w : ℕ = p.word in
@@ -130,7 +130,7 @@ neither : (a b : Bool) → (not a || not b) ≡ not (a && b)
 neither true b = refl
 neither false b = refl
 
-pub link_taken_lem : (x : State) (c : ℕ) (p : Plan) → link_taken x c p ≡ not (all_clear (reads x) (links_of c p))
+pub link_taken_lem : (x : State) (c : ℕ) (p : Plan ℕ) → link_taken x c p ≡ not (all_clear (reads x) (links_of c p))
 unfolding links_of
 link_taken_lem x c p =
     let us : List Channel = cond p.up (UpLink c ∷ []) [] in

@@ -62,7 +62,7 @@ down_taken x None = false
 down_taken x (Some d) = is_some (card_at x d).down_link
 
 -- a link needed is occupied
-abbrev pub link_taken : State → ℕ → Plan → Bool
+abbrev pub link_taken : State → ℕ → Plan ℕ → Bool
 link_taken x c p =
     cond p.up (is_some (card_at x c).up_link) false || (cond p.turn (is_some (card_at x c).turn_link) false || (down_taken x p.left || down_taken x p.right))
 
@@ -73,7 +73,7 @@ inbox_taken x c Dropped = false
 inbox_taken x c (Kept w) = nat_le inbox_room (length (card_at x c).inbox)
 
 -- all outputs together, or a refusal
-abbrev pub clear : State → ℕ → Plan → Result (Unit {0}) FireFault
+abbrev pub clear : State → ℕ → Plan ℕ → Result (Unit {0}) FireFault
 clear x c p = cond (link_taken x c p) (Err LinkOccupied) (cond (inbox_taken x c p.here) (Err InboxFull) (Ok tt))
 
 -- the word that is kept enters the inbox
@@ -100,7 +100,7 @@ to_down_link None w x = x
 to_down_link (Some d) w x = on_card x d (with_down_link (Some w))
 
 -- the word is written to every link of the plan
-abbrev pub written : ℕ → Plan → State → State
+abbrev pub written : ℕ → Plan ℕ → State → State
 written c p x = to_down_link p.right p.word (to_down_link p.left p.word (to_turn_link c p.turn p.word (to_up_link c p.up p.word x)))
 
 -- the station once the word has passed
@@ -109,10 +109,10 @@ passed c Up i w e x = on_card x c (with_up (after (card_at x c).up i w e))
 passed c Down i w e x = on_card x c (with_down (after (card_at x c).down i w e))
 
 -- the word w from the channel o has gone through a station
-abbrev pub carried : ℕ → Station → Input → Channel → ℕ → Plan → State → State
+abbrev pub carried : ℕ → Station → Input → Channel → ℕ → Plan ℕ → State → State
 carried c t i o w p x = passed c t i w p.here (written c p (consumed o (kept c p.here x)))
 
-abbrev pub carry : State → ℕ → Station → Input → Channel → ℕ → Plan → Fired
+abbrev pub carry : State → ℕ → Station → Input → Channel → ℕ → Plan ℕ → Fired
 carry x c t i o w p = and_then x (clear x c p) (λ _. record { answer = Ok (sum_of p); next = carried c t i o w p x })
 
 -- merge, then up or down

@@ -7,9 +7,7 @@ use Rattle.station.specs.declared.hold.Station.{Station}
 use Rattle.station.specs.declared.hold.Input.{Input}
 use Rattle.station.specs.Plans.{Verdicts}
 use Rattle.network.specs.Cards.{State, empty, card_at}
-use Rattle.network.specs.Sends.{Way, send_way, send_step}
-use Rattle.network.specs.Fires.{fire_step}
-use Rattle.network.specs.Takes.{take_step}
+use Rattle.network.specs.Sends.{Way, send_way}
 use Rattle.network.specs.Sums.{sum_over}
 use Rattle.network.specs.Owed.{hops_owed}
 use Rattle.network.specs.Runs.{Call, send, fire, take, owed, run, run_from, next}
@@ -20,60 +18,62 @@ use Rattle.network.proofs.OwedBound.{bounds}
 use Rattle.network.proofs.RefusedCalls.{refused_same}
 use Rattle.router.specs.Inner.{lowered, raised, greatest}
 use Rattle.router.specs.Kept.{Meaning, meaning, Led, Stands, Keeps}
+use Rattle.router.specs.Calls.{new_tree, sent_tree, fire_answer, fired_tree, took_tree}
 use Rattle.router.proofs.WayHops.{way-hops}
 
-module _ (s : Shape) (L : Lawful s) (v : Verdicts) where
-  -- the tree as it is set up
-  pub begins : Stands [] (meaning s v empty 0)
-  unfolding run run_from sum_over
-  begins = record { led = record { reached = refl; counted = sym nothing }; laws = three_laws s L v [] }
+-- the tree as it is set up
+pub begins : (s : Shape) → Lawful s → (v : Verdicts) (m : Meaning) → m ≡ new_tree s v → Stands [] m
+unfolding run run_from sum_over
+begins s L v m e = subst (Stands []) (sym e) fresh
+  where
+    nothing : hops_owed s empty ≡ 0
+    nothing = let h = (three_laws s L v []).hops in let z : hops_owed s empty + 0 ≡ 0 = h in omega arith
+
+    fresh : Stands [] (new_tree s v)
+    fresh = record { led = record { reached = refl; counted = sym nothing }; laws = three_laws s L v [] }
+
+module _ (m : Meaning) (L : Lawful m.shape) where
+  abbrev after : Call → State
+  after k = next m.shape m.verdicts m.cards k
+
+  counts : (ks : List Call) → Led ks m → Counts m.shape m.verdicts m.cards
+  counts ks l = subst (λ (z : State). Counts m.shape m.verdicts z) l.reached (counts_law m.shape L m.verdicts ks)
+
+  -- the call k takes m to m', where the kept number stays right
+  leads : (k : Call) (m' : Meaning) (n : ℕ) → m' ≡ meaning m.shape m.verdicts (after k) n →
+      ((ks : List Call) → Led ks m → n ≡ hops_owed m.shape (after k)) → Keeps k m m'
+  leads k m' n e right ks l =
+      let z = every_call m.shape L m.verdicts m.cards k ks l.reached in
+      let led : Led (ks ++ (k ∷ [])) (meaning m.shape m.verdicts (after k) n) = record { reached = z.0; counted = right ks l } in
+      subst (Stands (ks ++ (k ∷ []))) (sym e) (record { led = led; laws = z.1 })
+
+  pub fire_leads : (c : ℕ) (t : Station) (i : Input) (m' : Meaning) → m' ≡ fired_tree c t i m → Keeps (fire c t i) m m'
+  fire_leads c t i m' e = leads (fire c t i) m' _ e (λ ks l. by ks l (fire_answer c t i m) refl)
     where
-      nothing : hops_owed s empty ≡ 0
-      nothing = let h = (three_laws s L v []).hops in let z : hops_owed s empty + 0 ≡ 0 = h in omega arith
+      by : (ks : List Call) → Led ks m → (a : Result ℕ FireFault) → fire_answer c t i m ≡ a → lowered m.owed a ≡ hops_owed m.shape (after (fire c t i))
+      by ks l (Ok a) q = let h = (counts ks l).fire c t i a q in let o = l.counted in omega arith
+      by ks l (Err f) q = l.counted ∙ sym (ap (hops_owed m.shape) (refused_same.fire m.shape m.verdicts m.cards c t i f q))
 
-  module _ (x : State) (n : ℕ) where
-    leads : (k : Call) (n' : ℕ) → ((ks : List Call) → Led ks (meaning s v x n) → n' ≡ hops_owed s (next s v x k)) → Keeps k (meaning s v x n) (meaning s v (next s v x k) n')
-    leads k n' right ks l =
-        let e = every_call s L v x k ks l.reached in
-        record { led = record { reached = e.0; counted = right ks l }; laws = e.1 }
+  pub take_leads : (c : ℕ) (m' : Meaning) → m' ≡ took_tree c m → Keeps (take c) m m'
+  take_leads c m' e = leads (take c) m' _ e (λ ks l. l.counted ∙ sym ((counts ks l).take c))
 
-    counts : (ks : List Call) → Led ks (meaning s v x n) → Counts s v x
-    counts ks l = subst (λ (z : State). Counts s v z) l.reached (counts_law s L v ks)
+  pub owed_leads : Keeps owed m m
+  owed_leads = leads owed m _ refl (λ ks l. l.counted)
 
-    pub fire_leads : (c : ℕ) (t : Station) (i : Input) → Keeps (fire c t i) (meaning s v x n) (meaning s v (fire_step s v x c t i).next (lowered n (fire_step s v x c t i).answer))
-    fire_leads c t i = leads (fire c t i) _ (λ ks l. by ks l (fire_step s v x c t i).answer refl)
-      where
-        by : (ks : List Call) → Led ks (meaning s v x n) → (a : Result ℕ FireFault) → (fire_step s v x c t i).answer ≡ a → lowered n a ≡ hops_owed s (fire_step s v x c t i).next
-        by ks l (Ok a) e = let h = (counts ks l).fire c t i a e in let m = l.counted in omega arith
-        by ks l (Err f) e = l.counted ∙ sym (ap (hops_owed s) (refused_same.fire s v x c t i f e))
-
-    pub take-leads : (c : ℕ) → Keeps (take c) (meaning s v x n) (meaning s v (take_step s x c).next n)
-    take-leads c = leads (take c) n (λ ks l. l.counted ∙ sym ((counts ks l).take c))
-
-    pub owed_leads : Keeps owed (meaning s v x n) (meaning s v x n)
-    owed_leads = leads owed n (λ ks l. l.counted)
-
-    pub send_leads : (c : ℕ) (p : List ℕ) →
-        Keeps (send c p) (meaning s v x n) (meaning s v (send_step s x c p).next (raised s n (length p) (send_way s (length (card_at x c).queue) c p)))
-    send_leads c p = leads (send c p) _ (λ ks l. by ks l (send_way s (length (card_at x c).queue) c p) refl)
-      where
-        by : (ks : List Call) → Led ks (meaning s v x n) → (r : Result Way PacketFault) → send_way s (length (card_at x c).queue) c p ≡ r →
-            raised s n (length p) r ≡ hops_owed s (send_step s x c p).next
-        by ks l (Ok w) e =
-            let h = (counts ks l).send c p (rw e refl) in
-            let m = l.counted in
-            let q = way-hops s c w (length (card_at x c).queue) p e in
-            let k = (every_call s L v x (send c p) ks l.reached).0 in
-            let b : hops_owed s (send_step s x c p).next ≤ most_owed = subst (λ (z : State). hops_owed s z ≤ most_owed) k (bounds.holds s L v (ks ++ (send c p ∷ []))).owed in
-            small _ _ (omega arith) b
-          where
-            small : (a b : ℕ) → a ≡ b → b ≤ most_owed → min a greatest ≡ b
-            small a b z l = let q : b ≤ greatest = omega arith in rw z (omega arith)
-        by ks l (Err f) e = l.counted ∙ sym (ap (hops_owed s) (refused_same.send s x c p f (rw e refl)))
-
--- two trees that mean the same
-pub same_tree : {s s' : Shape} {v v' : Verdicts} {x x' : State} {n n' : ℕ} → s' ≡ s → v' ≡ v → x' ≡ x → n' ≡ n → meaning s' v' x' n' ≡ meaning s v x n
-same_tree a b c d = λ i. record { shape = a i; verdicts = b i; cards = c i; owed = d i }
-
-pub keeps_to : (k : Call) (m m' m'' : Meaning) → m' ≡ m'' → Keeps k m m'' → Keeps k m m'
-keeps_to k m m' m'' e h = subst (λ (z : Meaning). Keeps k m z) (sym e) h
+  pub send_leads : (c : ℕ) (p : List ℕ) (m' : Meaning) → m' ≡ sent_tree c p m → Keeps (send c p) m m'
+  send_leads c p m' e = leads (send c p) m' _ e (λ ks l. by ks l (send_way m.shape (length (card_at m.cards c).queue) c p) refl)
+    where
+      by : (ks : List Call) → Led ks m → (r : Result Way PacketFault) → send_way m.shape (length (card_at m.cards c).queue) c p ≡ r →
+          raised m.shape m.owed (length p) r ≡ hops_owed m.shape (after (send c p))
+      by ks l (Ok w) q =
+          let h = (counts ks l).send c p (rw q refl) in
+          let o = l.counted in
+          let d = way-hops m.shape c w (length (card_at m.cards c).queue) p q in
+          let k = (every_call m.shape L m.verdicts m.cards (send c p) ks l.reached).0 in
+          let b : hops_owed m.shape (after (send c p)) ≤ most_owed =
+          subst (λ (z : State). hops_owed m.shape z ≤ most_owed) k (bounds.holds m.shape L m.verdicts (ks ++ (send c p ∷ []))).owed in
+          small _ _ (omega arith) b
+        where
+          small : (a b : ℕ) → a ≡ b → b ≤ most_owed → min a greatest ≡ b
+          small a b z l = let q : b ≤ greatest = omega arith in rw z (omega arith)
+      by ks l (Err f) q = l.counted ∙ sym (ap (hops_owed m.shape) (refused_same.send m.shape m.cards c p f (rw q refl)))

@@ -22,6 +22,10 @@ meaning s v x n = record { shape = s; verdicts = v; cards = x; owed = n }
 abbrev pub tree_of : {W P : Type 0} → (W → Shape) → (P → Verdicts) → Tree W P → Meaning
 tree_of shape verdict t = meaning (shape t.wiring) (verdict t.policy) t.table t.owed
 
+-- the wiring and the policy are the same
+abbrev pub SameParts : {W P : Type 0} → Tree W P → Tree W P → Type 0
+SameParts t t' = (t'.wiring ≡ t.wiring) × (t'.policy ≡ t.policy)
+
 -- these calls, made since setting up, have led to the tree: to its cards, and its kept number is the hops owed there
 pub record Led (ks : List Call) (m : Meaning) : Type 0 where
   pub reached : Reached m.shape m.verdicts ks m.cards

@@ -1,10 +1,12 @@
 // Each call's answer and its next tree.
-ghost use Rattle.std.specs.Prelude.{◌≡◌, ◌+◌, ◌≤◌, length, Ok};
+ghost use Rattle.std.specs.Prelude.{◌≡◌, ◌+◌, ◌≤◌, length, IfOk};
+ghost use Rattle.packet.specs.Packets.{check_packet};
 ghost use Rattle.network.specs.Cards.{card_at};
-ghost use Rattle.network.specs.Sends.{send_way, send_step};
+ghost use Rattle.network.specs.Sends.{way_for, room_by, send_way, send_step};
 ghost use Rattle.network.specs.Fires.{fire_step};
 ghost use Rattle.network.specs.Takes.{take_step};
-ghost use Rattle.router.specs.Inner.{lowered, raised, way_told, Roomy};
+ghost use Rattle.router.specs.Inner.{lowered, raised};
+ghost use Rattle.router.specs.Kept.{SameParts};
 
 use crate::tree::Tree;
 use crate::way::Way;
@@ -12,20 +14,17 @@ use licence::Policy;
 use packet::check;
 use refusal::{FireFault, PacketFault, TakeFault};
 use routing::{path_hops, walk_route};
-use station::{Input, Station};
+use station::{CardId, Input, Station};
 use wiring::Wiring;
 
 impl<W: Wiring, P: Policy> Tree<W, P> {
-    // The way of a packet that may be queued, or why it may not: the card, the packet, its route, and room in the queue, in this order.
-    fn way(&self, card: u16, packet: &[u32]) -> Result<Way, PacketFault>
-        ensures way { way_told result ≡ send_way (W.Wiring.shape self.now.wiring) (length (card_at self.now.table card).queue) card packet.now }
-        ensures room { Roomy (W.Wiring.shape self.now.wiring).cards card (length (card_at self.now.table card).queue + length packet.now) result }
+    // The way of a packet that may be queued, or why it may not: the packet, its route, and room in the queue, in this order.
+    fn way(&self, card: CardId, packet: &[u32]) -> Result<Way, PacketFault>
+        ensures way { result ≡ room_by (length (card_at self.now.table card).queue + length packet.now) (way_for (W.shape self.now.wiring) card (check_packet packet.now)) }
+        ensures room { IfOk result (λ _. length (card_at self.now.table card).queue + length packet.now ≤ 64) }
     {
-        if card >= self.wiring.cards() {
-            return Err(PacketFault::NoSender);
-        }
         let head = check(packet)?;
-        let walk = walk_route(&self.wiring, card, head.route)?;
+        let walk = walk_route(&self.wiring, card.number(), head.route)?;
         if self.table.queued(card) + packet.len() > 64 {
             return Err(PacketFault::QueueFull);
         }
@@ -37,15 +36,17 @@ impl<W: Wiring, P: Policy> Tree<W, P> {
 
     // A send: the whole packet is queued, or nothing is.
     pub(crate) fn send_step(&mut self, card: u16, packet: &[u32]) -> Result<(), PacketFault>
-        ensures answer { result ≡ (send_step (W.Wiring.shape self.old.wiring) self.old.table card packet.now).answer }
-        ensures next { self.new.table ≡ (send_step (W.Wiring.shape self.old.wiring) self.old.table card packet.now).next }
-        ensures same { (self.new.wiring ≡ self.old.wiring) × (self.new.policy ≡ self.old.policy) }
-        ensures owed { self.new.owed ≡ raised (W.Wiring.shape self.old.wiring) self.old.owed (length packet.now) (send_way (W.Wiring.shape self.old.wiring) (length (card_at self.old.table card).queue) card packet.now) }
+        ensures answer { result ≡ (send_step (W.shape self.old.wiring) self.old.table card packet.now).answer }
+        ensures next { self.new.table ≡ (send_step (W.shape self.old.wiring) self.old.table card packet.now).next }
+        ensures same { SameParts self.old self.new }
+        ensures owed { self.new.owed ≡ raised (W.shape self.old.wiring) self.old.owed (length packet.now) (send_way (W.shape self.old.wiring) (length (card_at self.old.table card).queue) card packet.now) }
     {
+        let card = self.card(card).ok_or(PacketFault::NoSender)?;
         let way = self.way(card, packet)?;
         let hops = path_hops(&self.wiring, way.mode, &way.walk, packet.len() as u16);
         self.table.queue_all(card, packet);
-        self.owed = u64::from(self.owed).saturating_add(hops).min(0xffff_ffff) as u32;
+        let owed = u64::from(self.owed).saturating_add(hops);
+        self.owed = u32::try_from(owed).unwrap_or(u32::MAX);
         Ok(())
     }
 
@@ -56,33 +57,25 @@ impl<W: Wiring, P: Policy> Tree<W, P> {
         station: Station,
         input: Input,
     ) -> Result<u8, FireFault>
-        ensures answer { result ≡ (fire_step (W.Wiring.shape self.old.wiring) (P.Policy.verdict self.old.policy) self.old.table card station input).answer }
-        ensures next { self.new.table ≡ (fire_step (W.Wiring.shape self.old.wiring) (P.Policy.verdict self.old.policy) self.old.table card station input).next }
-        ensures same { (self.new.wiring ≡ self.old.wiring) × (self.new.policy ≡ self.old.policy) }
+        ensures answer { result ≡ (fire_step (W.shape self.old.wiring) (P.verdict self.old.policy) self.old.table card station input).answer }
+        ensures next { self.new.table ≡ (fire_step (W.shape self.old.wiring) (P.verdict self.old.policy) self.old.table card station input).next }
+        ensures same { SameParts self.old self.new }
         ensures owed { self.new.owed ≡ lowered self.old.owed result }
     {
-        if card >= self.wiring.cards() {
-            return Err(FireFault::NoCard);
-        }
+        let card = self.card(card).ok_or(FireFault::NoCard)?;
         let from = self.locate(card, station, input)?;
-        let word = self.table.word_at(from)?;
+        let word = self.table.word_at(&from)?;
         self.move_word(card, station, input, from, word)
     }
 
     // A take: the oldest word of an inbox.
     pub(crate) fn take_step(&mut self, card: u16) -> Result<u32, TakeFault>
-        ensures answer { result ≡ (take_step (W.Wiring.shape self.old.wiring) self.old.table card).answer }
-        ensures next { self.new.table ≡ (take_step (W.Wiring.shape self.old.wiring) self.old.table card).next }
-        ensures same { (self.new.wiring ≡ self.old.wiring) × (self.new.policy ≡ self.old.policy) }
+        ensures answer { result ≡ (take_step (W.shape self.old.wiring) self.old.table card).answer }
+        ensures next { self.new.table ≡ (take_step (W.shape self.old.wiring) self.old.table card).next }
+        ensures same { SameParts self.old self.new }
         ensures owed { self.new.owed ≡ self.old.owed }
     {
-        if card >= self.wiring.cards() {
-            return Err(TakeFault::NoReader);
-        }
-        let Some(word) = self.table.first_in(card) else {
-            return Err(TakeFault::InboxEmpty);
-        };
-        let _ = self.table.take(card);
-        Ok(word)
+        let card = self.card(card).ok_or(TakeFault::NoReader)?;
+        self.table.take(card).ok_or(TakeFault::InboxEmpty)
     }
 }

@@ -3,6 +3,7 @@ use licence::Policy;
 use store::Table;
 use wiring::Wiring;
 
+// It has no model, since the clauses of its calls name the wiring and the policy themselves.
 #[derive(Drop)]
 pub struct Tree<W: Wiring, P: Policy> {
     pub(crate) wiring: W,

@@ -20,23 +20,23 @@ abbrev pub Verdicts : Type 0
 Verdicts = ℕ → ℕ → Verdict
 
 -- from the up station of card c: a 1 to the up link, which card 0 has not, and a 0 to the turn link
-abbrev pub up_by : ℕ → Bool → ℕ → Plan
+abbrev pub up_by : ℕ → Bool → ℕ → Plan ℕ
 up_by c b w = record { up = b && not (c == 0); turn = not b; left = None; right = None; word = w; here = Onward }
 
 -- Up: a head goes by its top route bit, and its route moves up one bit. Later words follow their head unchanged.
-abbrev pub upward : ℕ → Hold Input → ℕ → Plan
+abbrev pub upward : ℕ → Hold Input → ℕ → Plan ℕ
 upward c Free w = up_by c (top_bit w) (advance w)
 upward c (Held i h) w = up_by c (top_bit h) w
 upward c (Dropping i h) w = up_by c (top_bit h) w
 upward c (Accepting i h) w = up_by c (top_bit h) w
 
 -- to these daughters
-abbrev pub fork_to : Option ℕ → Option ℕ → ℕ → Here → Plan
+abbrev pub fork_to : Option ℕ → Option ℕ → ℕ → Here → Plan ℕ
 fork_to l r w e = record { up = false; turn = false; left = l; right = r; word = w; here = e }
 
 -- from the down station of card c, by the head h: at its stop a flooding packet goes to every daughter present and a targeted one to none;
 -- before its stop a packet goes to the daughter that the top route bit names
-abbrev pub down_by : Shape → ℕ → ℕ → ℕ → Here → Plan
+abbrev pub down_by : Shape → ℕ → ℕ → ℕ → Here → Plan ℕ
 down_by s c h w e =
     cond (stops h)
     (cond (floods h) (fork_to (s.daughter Left c) (s.daughter Right c) w e) (fork_to None None w e))
@@ -57,18 +57,18 @@ judged v c h w = cond (stops h) (judged_by (accepted v c h w) w) Onward
 
 -- Down: a head goes on or stops, and its route moves up one bit; the head itself is not delivered. Later words follow their head unchanged.
 -- At the stop they enter the inbox if the packet is accepted.
-abbrev pub downward : Shape → Verdicts → ℕ → Hold Input → ℕ → Plan
+abbrev pub downward : Shape → Verdicts → ℕ → Hold Input → ℕ → Plan ℕ
 downward s v c Free w = down_by s c w (advance w) Onward
 downward s v c (Held i h) w = down_by s c h w (judged v c h w)
 downward s v c (Dropping i h) w = down_by s c h w Dropped
 downward s v c (Accepting i h) w = down_by s c h w (Kept w)
 
 -- up or down
-abbrev pub planned : Shape → Verdicts → ℕ → Station → Hold Input → ℕ → Plan
+abbrev pub planned : Shape → Verdicts → ℕ → Station → Hold Input → ℕ → Plan ℕ
 planned s v c Up d w = upward c d w
 planned s v c Down d w = downward s v c d w
 
-abbrev pub if_some : Option ℕ → ℕ → ℕ
+abbrev pub if_some : {C : Type 0} → Option C → ℕ → ℕ
 if_some None n = 0
 if_some (Some d) n = n
 
@@ -78,5 +78,5 @@ if_kept Dropped n = 0
 if_kept (Kept w) n = n
 
 -- the outputs written, as a sum: 1 up link, 2 turn link, 4 left, 8 right, 16 inbox
-abbrev pub sum_of : Plan → ℕ
+abbrev pub sum_of : {C : Type 0} → Plan C → ℕ
 sum_of p = cond p.up 1 0 + cond p.turn 2 0 + if_some p.left 4 + if_some p.right 8 + if_kept p.here 16

@@ -2,21 +2,23 @@
 ghost use Rattle.std.specs.Prelude.{◌≡◌};
 ghost use Rattle.station.specs.Channels.{channel_card};
 
+use crate::card_id::CardId;
+
 // A card's queue, its up link to its parent, its turn link, and the down link from its parent.
 #[derive(Clone, Copy)]
 pub enum Channel {
-    Queued(u16),
-    UpLink(u16),
-    TurnLink(u16),
-    DownLink(u16),
+    Queued(CardId),
+    UpLink(CardId),
+    TurnLink(CardId),
+    DownLink(CardId),
 }
 
 impl Channel {
     // The card whose channel it is.
-    pub fn card(self) -> u16
-        ensures { result ≡ channel_card self }
+    pub fn card(&self) -> CardId
+        ensures { result ≡ channel_card self.now }
     {
-        match self {
+        match *self {
             Channel::Queued(card)
             | Channel::UpLink(card)
             | Channel::TurnLink(card)

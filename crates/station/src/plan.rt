@@ -2,21 +2,22 @@
 ghost use Rattle.std.specs.Prelude.{◌≡◌, not};
 ghost use Rattle.station.specs.Plans.{up_by, upward, sum_of};
 
+use crate::card_id::CardId;
 use crate::hold::{Here, Hold, Input};
 use packet::{advance, top_bit};
 
-// What one fire writes: a word to the links named, and what becomes of the word at the card itself.
+// What one fire writes: a word to the links named, where C names a daughter, and what becomes of the word at the card itself.
 #[derive(Clone, Copy)]
-pub struct Plan {
+pub struct Plan<C> {
     pub up: bool,
     pub turn: bool,
-    pub left: Option<u16>,
-    pub right: Option<u16>,
+    pub left: Option<C>,
+    pub right: Option<C>,
     pub word: u32,
     pub here: Here,
 }
 
-impl Plan {
+impl<C> Plan<C> {
     // The outputs written, as a sum.
     pub fn sum(&self) -> u8
         ensures { result ≡ sum_of self.now }
@@ -30,7 +31,7 @@ impl Plan {
 }
 
 // A 1 goes to the up link, which card 0 has not, and a 0 to the turn link.
-fn up_by(card: u16, top: bool, word: u32) -> Plan
+fn up_by(card: u16, top: bool, word: u32) -> Plan<CardId>
     ensures { result ≡ up_by card top word }
 {
     Plan {
@@ -44,7 +45,7 @@ fn up_by(card: u16, top: bool, word: u32) -> Plan
 }
 
 // What the up station of a card does with a word.
-pub fn up_plan(card: u16, hold: Hold<Input>, word: u32) -> Plan
+pub fn up_plan(card: u16, hold: Hold<Input>, word: u32) -> Plan<CardId>
     ensures { result ≡ upward card hold word }
 {
     match hold {

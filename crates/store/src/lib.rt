@@ -1,5 +1,5 @@
 // The memory of a tree: rings of words, cards, and the table of all cards. This crate is no entry point: the tree above it asks and checks,
-// and what it needs of a caller (a card that is in the table, room in a ring) stands in its `requires`.
+// and what it needs of a caller (room in a queue or an inbox) stands in its `requires`.
 #![tactic(auto)]
 
 mod card;

@@ -1,14 +1,12 @@
 // The cards of a tree.
 ghost use Rattle.std.specs.Prelude.{◌≡◌, ℕ, ◌+◌, ◌<◌, ◌≤◌, ◌++◌, false, length, Some, Ok};
-ghost use Rattle.station.specs.Channels.{channel_card};
 ghost use Rattle.station.specs.Holds.{merge};
 ghost use Rattle.network.specs.Cards.{empty, card_at, on_card, with_queue, with_inbox, oldest, younger};
 ghost use Rattle.network.specs.Fires.{waits, hold_at, down_taken, link_taken, inbox_taken, clear, kept, consumed, to_down_link, written, passed};
-ghost use Rattle.store.specs.Bounds.{Within};
 
 use crate::card::Card;
 use refusal::FireFault;
-use station::{Channel, Here, Hold, Input, Plan, Station};
+use station::{CardId, Channel, Here, Hold, Input, Plan, Station};
 use std::array;
 use std::marker::Model;
 
@@ -36,20 +34,18 @@ impl Table {
         }
     }
 
-    fn card(&self, c: u16) -> &Card
-        requires { c < 31 }
+    fn card(&self, c: CardId) -> &Card
         ensures { result.now ≡ card_at self.now c }
     {
-        &self.cards[usize::from(c)]
+        &self.cards[c.index()]
     }
 
     // The word that waits in a channel, or that nothing does.
-    pub fn word_at(&self, from: Channel) -> Result<u32, FireFault>
-        requires { channel_card from < 31 }
-        ensures { result ≡ waits self.now from }
+    pub fn word_at(&self, from: &Channel) -> Result<u32, FireFault>
+        ensures { result ≡ waits self.now from.now }
     {
         let card = self.card(from.card());
-        let word = match from {
+        let word = match *from {
             Channel::Queued(_) => card.queue.oldest(),
             Channel::UpLink(_) => card.uplink,
             Channel::TurnLink(_) => card.turnlink,
@@ -59,16 +55,14 @@ impl Table {
     }
 
     // The oldest word of an inbox.
-    pub fn first_in(&self, c: u16) -> Option<u32>
-        requires { c < 31 }
+    pub fn first_in(&self, c: CardId) -> Option<u32>
         ensures { result ≡ oldest (card_at self.now c).inbox }
     {
         self.card(c).inbox.oldest()
     }
 
     // How many words wait in a queue.
-    pub fn queued(&self, c: u16) -> usize
-        requires { c < 31 }
+    pub fn queued(&self, c: CardId) -> usize
         ensures words { result ≡ length (card_at self.now c).queue }
         ensures few { result ≤ 64 }
     {
@@ -76,8 +70,7 @@ impl Table {
     }
 
     // How a station stands.
-    pub fn hold(&self, c: u16, station: Station) -> Hold<Input>
-        requires { c < 31 }
+    pub fn hold(&self, c: CardId, station: Station) -> Hold<Input>
         ensures { result ≡ hold_at self.now c station }
     {
         match station {
@@ -87,22 +80,25 @@ impl Table {
     }
 
     // May the word that waits at this input pass?
-    pub fn admits(&self, c: u16, station: Station, input: Input, word: u32) -> Result<(), FireFault>
-        requires { c < 31 }
+    pub fn admits(
+        &self,
+        c: CardId,
+        station: Station,
+        input: Input,
+        word: u32,
+    ) -> Result<(), FireFault>
         ensures { result ≡ merge (hold_at self.now c station) input word }
     {
         self.hold(c, station).admits(input, word)
     }
 
-    fn down_taken(&self, to: Option<u16>) -> bool
-        requires { (d : ℕ) → to ≡ Some d → d < 31 }
+    fn down_taken(&self, to: Option<CardId>) -> bool
         ensures { result ≡ down_taken self.now to }
     {
         to.is_some_and(|d| self.card(d).downlink.is_some())
     }
 
-    fn link_taken(&self, c: u16, plan: &Plan) -> bool
-        requires { (c < 31) × (Within 31 plan.now) }
+    fn link_taken(&self, c: CardId, plan: &Plan<CardId>) -> bool
         ensures { result ≡ link_taken self.now c plan.now }
     {
         let card = self.card(c);
@@ -112,16 +108,14 @@ impl Table {
             || self.down_taken(plan.right)
     }
 
-    fn inbox_taken(&self, c: u16, here: Here) -> bool
-        requires { c < 31 }
+    fn inbox_taken(&self, c: CardId, here: Here) -> bool
         ensures { result ≡ inbox_taken self.now c here }
     {
         matches!(here, Here::Kept(_)) && self.card(c).inbox.len() >= 64
     }
 
     // Is there room for all outputs?
-    pub fn check(&self, c: u16, plan: &Plan) -> Result<(), FireFault>
-        requires { (c < 31) × (Within 31 plan.now) }
+    pub fn check(&self, c: CardId, plan: &Plan<CardId>) -> Result<(), FireFault>
         ensures answer { result ≡ clear self.now c plan.now }
         ensures room { result ≡ Ok tt → inbox_taken self.now c plan.now.here ≡ false }
     {
@@ -135,22 +129,21 @@ impl Table {
     }
 
     // The word that is kept enters the inbox.
-    pub fn keep(&mut self, c: u16, here: Here)
-        requires { (c < 31) × (inbox_taken self.old c here ≡ false) }
+    pub fn keep(&mut self, c: CardId, here: Here)
+        requires { inbox_taken self.old c here ≡ false }
         ensures { self.new ≡ kept c here self.old }
     {
         if let Here::Kept(word) = here {
-            let card = &mut self.cards[usize::from(c)];
+            let card = &mut self.cards[c.index()];
             card.inbox.push(word);
         }
     }
 
     // The oldest word leaves a channel.
     pub fn consume(&mut self, from: Channel)
-        requires { channel_card from < 31 }
         ensures { self.new ≡ consumed from self.old }
     {
-        let card = &mut self.cards[usize::from(from.card())];
+        let card = &mut self.cards[from.card().index()];
         match from {
             Channel::Queued(_) => {
                 card.queue.pop();
@@ -162,11 +155,10 @@ impl Table {
     }
 
     // The word is written to every link of the plan.
-    pub fn write(&mut self, c: u16, plan: &Plan)
-        requires { (c < 31) × (Within 31 plan.now) }
+    pub fn write(&mut self, c: CardId, plan: &Plan<CardId>)
         ensures { self.new ≡ written c plan.now self.old }
     {
-        let card = &mut self.cards[usize::from(c)];
+        let card = &mut self.cards[c.index()];
         if plan.up {
             card.uplink = Some(plan.word);
         }
@@ -177,22 +169,20 @@ impl Table {
         self.write_down(plan.right, plan.word);
     }
 
-    fn write_down(&mut self, to: Option<u16>, word: u32)
-        requires { (d : ℕ) → to ≡ Some d → d < 31 }
+    fn write_down(&mut self, to: Option<CardId>, word: u32)
         ensures { self.new ≡ to_down_link to word self.old }
     {
         if let Some(d) = to {
-            let card = &mut self.cards[usize::from(d)];
+            let card = &mut self.cards[d.index()];
             card.downlink = Some(word);
         }
     }
 
     // The station moves in place.
-    pub fn pass(&mut self, c: u16, station: Station, input: Input, word: u32, here: Here)
-        requires { c < 31 }
+    pub fn pass(&mut self, c: CardId, station: Station, input: Input, word: u32, here: Here)
         ensures { self.new ≡ passed c station input word here self.old }
     {
-        let card = &mut self.cards[usize::from(c)];
+        let card = &mut self.cards[c.index()];
         match station {
             Station::Up => card.up.pass(input, word, here),
             Station::Down => card.down.pass(input, word, here),
@@ -200,21 +190,20 @@ impl Table {
     }
 
     // The oldest word leaves the inbox.
-    pub fn take(&mut self, c: u16) -> Option<u32>
-        requires { c < 31 }
+    pub fn take(&mut self, c: CardId) -> Option<u32>
         ensures word { result ≡ oldest (card_at self.old c).inbox }
         ensures rest { self.new ≡ on_card self.old c (with_inbox (younger (card_at self.old c).inbox)) }
     {
-        let card = &mut self.cards[usize::from(c)];
+        let card = &mut self.cards[c.index()];
         card.inbox.pop()
     }
 
     // All these words enter the queue.
-    pub fn queue_all(&mut self, c: u16, words: &[u32])
-        requires { (c < 31) × (length (card_at self.old c).queue + length words.now ≤ 64) }
+    pub fn queue_all(&mut self, c: CardId, words: &[u32])
+        requires { length (card_at self.old c).queue + length words.now ≤ 64 }
         ensures { self.new ≡ on_card self.old c (with_queue ((card_at self.old c).queue ++ words.now)) }
     {
-        let card = &mut self.cards[usize::from(c)];
+        let card = &mut self.cards[c.index()];
         card.queue.push_all(words);
     }
 }

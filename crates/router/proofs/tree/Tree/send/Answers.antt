@@ -1,19 +1,6 @@
-use Rattle.std.proofs.Common.{ap}
-use Rattle.network.specs.Runs.{send}
-use Rattle.router.proofs.Leading.{same_tree, keeps_to, send_leads}
+use Rattle.std.proofs.Common.{rules}
+use Rattle.router.proofs.Leading.{send_leads}
 use Rattle.router.proofs.tree.Tree.send.Goals as goal
 
-pub returns : goal.returns
-returns g c =
-    let t = c.args.self.now in
-    let p = c.args.packet.now in
-    let f = c.send_step.ensures in
-    let L = g.met.W.Wiring.lawful t.wiring in
-    let z = same_tree (ap g.W.Wiring.shape f.same.0) (ap g.P.Policy.verdict f.same.1) f.next f.owed in
-    record {
-      answer = f.answer;
-      next = z;
-      same = f.same;
-      laws = keeps_to (send c.args.card p) _ _ _ z
-          (send_leads (g.W.Wiring.shape t.wiring) L (g.P.Policy.verdict t.policy) t.table t.owed c.args.card p);
-    }
+pub returns-clause-laws : goal.returns-clause-laws
+returns-clause-laws g c = send_leads _ (g.met.W.Wiring.lawful c.args.self.now.wiring) _ _ _ (search rules)
