@@ -35,7 +35,7 @@ impl Head {
     // The mode and the route of a head. Its other bits are dropped, so this is no From.
     pub fn read(word: u32) -> Head
         ensures mode { result.mode ≡ mode_of word }
-        ensures route { result.route.bits ≡ route_in word }
+        ensures route { result.route ≡ route_in word }
     {
         let mode = if word / 0x2000_0000 % 2 == 1 {
             Mode::Flood
@@ -51,7 +51,7 @@ impl Head {
 
 // The head as a word.
 impl From<Head> for u32 {
-    ghost from_gives = { λ head word. word ≡ head_word head.mode head.route.bits };
+    ghost from_gives = { λ head word. word ≡ head_word head.mode head.route };
 
     fn from(head: Head) -> u32 {
         let mode = match head.mode {

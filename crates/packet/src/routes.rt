@@ -1,5 +1,5 @@
 // Routes, and what they ask for. The methods stand in the files below.
-ghost use Rattle.std.specs.Prelude.{◌^◌, ◌<◌, ◌≤◌};
+ghost use Rattle.std.specs.Prelude.{ℕ, ◌^◌, ◌<◌, ◌≤◌};
 
 mod descending;
 mod reading;
@@ -7,15 +7,26 @@ mod writing;
 
 pub use descending::Descents;
 pub use reading::routes_ending_going_up;
+use std::marker::Model;
 
-// A route: nine bits, read from the highest down.
+// A route: nine bits, read from the highest down. A caller sees the number that they make.
 #[derive(Clone, Copy)]
 pub struct Route {
     bits: u16,
-    ghost nine: { bits < 512 },
+}
+
+impl Model for Route {
+    ghost Value = { ℕ };
+
+    ghost view = { λ route. route.bits };
+
+    ghost invariant = { λ route. route.bits < 512 };
+
+    ghost inverse = { λ n. record { bits = n } };
 }
 
 // The sides of a way down, at most seven: one bit for each, the first one highest. Bits and no Vec, since send uses no heap.
+// Clauses read them by sides_in, with no Model: a Copy type owes that its bits come back, and that proof is too long for specs.
 #[derive(Clone, Copy)]
 pub struct Sides {
     bits: u16,

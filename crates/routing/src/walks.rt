@@ -40,7 +40,7 @@ fn descended<W: Wiring>(wiring: &W, card: u16, sides: Sides) -> Result<u16, Rout
 
 // Where the route leads from this card, or why it leads nowhere.
 pub fn walk_route<W: Wiring>(wiring: &W, card: u16, route: Route) -> Result<Walk, RouteFault>
-    ensures { result ≡ walk_of (W.shape wiring.now) card route.bits }
+    ensures { result ≡ walk_of (W.shape wiring.now) card route }
 {
     let Some(course) = route.course() else {
         return Err(RouteFault::EndsGoingUp { card });

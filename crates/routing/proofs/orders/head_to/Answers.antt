@@ -1,4 +1,4 @@
-use Rattle.std.proofs.Common.{ℕ, Option, sym, refl, ap, subst}
+use Rattle.std.proofs.Common.{ℕ, Option, sym, ap, subst}
 use Rattle.packet.specs.Courses.{course_of}
 use Rattle.routing.specs.Orders.{HeadTo, head_in}
 use Rattle.routing.proofs.Ordering.{written-leads, unwritten_far}
@@ -18,5 +18,5 @@ returns-in_err-route g c =
 
 pub returns : goal.returns
 returns g c =
-    written-leads (g.W.Wiring.shape c.args.wiring.now) c.args.sender c.args.terminus (course_of c.in_ok-course.course) c.args.mode c.in_ok-route.route.bits
-    c.in_ok-course.ensures c.in_ok-route.route.nine (c.in_ok-route.ensures.back c.in_ok-route.route refl)
+    written-leads (g.W.Wiring.shape c.args.wiring.now) c.args.sender c.args.terminus (course_of c.in_ok-course.course) c.args.mode c.in_ok-route.route
+    c.in_ok-course.ensures c.in_ok-route.ensures.nine c.in_ok-route.ensures.back
