@@ -16,6 +16,7 @@ pub enum PlanFault {
     Memory,
 }
 
+// The conversions are by hand: clauses name the fault that a `?` makes, and a derived `From` says nothing of it.
 impl From<WiringFault> for PlanFault {
     ghost from_gives = { λ f r. r ≡ PlanWiring f };
 

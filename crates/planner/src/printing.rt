@@ -25,20 +25,22 @@ impl fmt::Display for Letters {
 
 impl fmt::Display for Plan {
     fn fmt<W: fmt::Write>(&self, f: &mut fmt::Formatter<W>) -> fmt::Result {
-        let head = u32::from(self.head);
-        let letters = Letters(self.head.route);
-        let walk = self.walk;
-        let ups = walk.ups;
-        let turn = walk.turn;
-        let descents = walk.descents;
-        let terminus = walk.terminus;
-        let reached = self.reached;
-        let hops = self.hops;
-        let mode = self.head.mode;
         write!(
             f,
-            "head {head:08x}, route {letters}, {ups} up to card {turn}, {descents} down to card {terminus}, "
+            "head {:08x}, route {}, ",
+            u32::from(self.head),
+            Letters(self.head.route)
         )?;
-        write!(f, "{mode}, cards reached {reached}, hops a word {hops}")
+        write!(f, "{} up to card {}, ", self.walk.ups, self.walk.turn)?;
+        write!(
+            f,
+            "{} down to card {}, ",
+            self.walk.descents, self.walk.terminus
+        )?;
+        write!(
+            f,
+            "{}, cards reached {}, hops a word {}",
+            self.head.mode, self.reached, self.hops
+        )
     }
 }

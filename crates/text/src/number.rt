@@ -3,7 +3,7 @@ ghost use Rattle.std.specs.Prelude.{◌≡◌, ◌^◌, ◌<◌, ◌≤◌, Bool
 ghost use Rattle.text.specs.Number.{number_from, number_of, decimal_of, hex_byte_of, hex_word_of};
 ghost use Rattle.text.specs.Spelled.{plain_text, decimal_text, hex_text, byte_text, ReadsBack};
 
-// The number that digits of a base spell. Eight digits fit 32 bits.
+// The number that digits of a base spell, without the sign that `u32::from_str_radix` takes. Eight digits fit 32 bits.
 fn digits(base: u32, field: &[u8]) -> Option<u32>
     requires { (2 ≤ base) × ((base ≤ 16) × (length field.now ≤ 8)) }
     ensures value { result ≡ number_from base 0 field.now }
