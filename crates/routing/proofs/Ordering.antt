@@ -1,16 +1,16 @@
 -- A made route, read again; and the answer to an order.
-use Rattle.std.proofs.Common.{◌≡◌, ℕ, ◌+◌, ◌-◌, ◌<◌, Bool, true, false, cond, ltb, List, [], ◌∷◌, length, get_or, take, drop, Some, None, Ok, Err, Option, ok_or, sym, refl, ap, ◌∙◌, subst, arith, ltb-true, leb-false}
+use Rattle.std.proofs.Common.{◌≡◌, ℕ, ◌-◌, ◌<◌, true, ltb, List, [], ◌∷◌, length, get_or, take, drop, Some, None, Ok, Err, Option, ok_or, sym, refl, ap, ◌∙◌, subst, arith, ltb-true}
 use Rattle.std.proofs.lemmas.Slice.{first_rest}
 use Rattle.refusal.specs.declared.order.OrderFault.TheVariants.{NoneListed, TooLong}
 use Rattle.packet.specs.declared.heads.Head.{Head}
 use Rattle.packet.specs.declared.heads.Mode.{Mode}
 use Rattle.packet.specs.declared.heads.Mode.TheVariants.{Target, Flood}
-use Rattle.packet.specs.Routes.{Leads, route_in, read_route, fits_route, write_route, route_for, route_width}
+use Rattle.packet.specs.Routes.{Leads, route_in, read_route}
 use Rattle.packet.specs.Heads.{head_word}
 use Rattle.wiring.specs.Shapes.{Shape, Lawful}
 use Rattle.routing.specs.Walks.{walk_of, walk_by, walk_from, walk_to}
 use Rattle.routing.specs.Subtrees.{covers_all}
-use Rattle.routing.specs.Orders.{all_there, mode_for, Lowest, LowestOf, Journey, LeadsTo, TooFar, HeadTo, Serves, Ordered, head_in, head_told}
+use Rattle.routing.specs.Orders.{all_there, mode_for, Lowest, LowestOf, Journey, LeadsTo, HeadTo, Serves, Ordered, head_in, head_told}
 use Rattle.std.proofs.lemmas.Bool.{and_parts, and_from, both_ways}
 use Rattle.routing.proofs.Subtree.{covers_le, root_covers}
 
@@ -35,14 +35,6 @@ module _ (s : Shape) (c t : ℕ) where
         turns = j.turns;
         head = ap (head_word m) (sym q);
       }
-
-  -- a way that no route is written for is too far
-  pub unwritten_far : (l : Leads) → Journey s c t l.ups l.descents → None ≡ write_route l → TooFar s c t
-  unwritten_far l j e = by (fits_route l) refl e
-    where
-      by : (x : Bool) → fits_route l ≡ x → None ≡ cond x (Some (route_for route_width l.ups l.descents)) None → TooFar s c t
-      by true q f = absurd (let z : ◌≡◌ {A = ℕ} 0 1 = cc in omega arith)
-      by false q f = record { ups = l.ups; sides = l.descents; way = j; far = leb-false (l.ups + length l.descents) 7 q }
 
 -- what follows the first of the cards
 abbrev pub rest : List ℕ → List ℕ

@@ -1,5 +1,6 @@
 -- Between two cards of a tree there is one way, so an order has one answer.
-use Rattle.std.proofs.Common.{◌≡◌, ℕ, zero, suc, ◌+◌, ◌<◌, ◌≤◌, Bool, true, false, List, [], ◌∷◌, length, Some, None, Ok, Err, Option, Result, sym, refl, ap, ◌∙◌, subst, ap₂, add-one, arith}
+use Rattle.std.proofs.Common.{◌≡◌, ℕ, zero, suc, ◌+◌, ◌<◌, ◌≤◌, List, [], ◌∷◌, length, Some, None, Ok, Err, Option, Result, sym, refl, ap, ◌∙◌, subst, ap₂, add-one, arith}
+use Rattle.std.proofs.lemmas.Bool.{both_ways}
 use Rattle.refusal.specs.declared.send.RouteFault.{RouteFault}
 use Rattle.refusal.specs.declared.order.OrderFault.{OrderFault}
 use Rattle.refusal.specs.declared.order.OrderFault.TheVariants.{Unknown, NoneListed, TooLong}
@@ -170,24 +171,21 @@ module _ (s : Shape) (L : Lawful s) where
       let e = one_lowest cs b.terminus a.terminus b.lowest a.lowest in
       not_both c a.terminus h (mode_for cs) a.leads (subst (λ (t : ℕ). TooFar s c t) e b.far)
 
-  known_not : (b : Bool) → b ≡ true → b ≡ false → ⊥
-  known_not b p q = let z : true ≡ false = sym p ∙ q in grind arith
-
   -- an order has one answer
   pub one_answer : (c : ℕ) (cs : List ℕ) (r q : Result ℕ OrderFault) → Ordered s c cs r → Ordered s c cs q → r ≡ q
   one_answer c cs (Ok h) (Ok k) (p, a) (o, b) = ap Ok (serves_one c cs h k a b)
-  one_answer c cs (Ok h) (Err Unknown) (p, a) b = absurd (known_not _ p b)
+  one_answer c cs (Ok h) (Err Unknown) (p, a) b = absurd (both_ways _ b p)
   one_answer c cs (Ok h) (Err NoneListed) (p, a) (o, b) = absurd (listed cs a.terminus b a.lowest)
   one_answer c cs (Ok h) (Err TooLong) (p, a) (o, b) = absurd (serves_not c cs h a b)
-  one_answer c cs (Err Unknown) (Ok k) a (o, b) = absurd (known_not _ o a)
+  one_answer c cs (Err Unknown) (Ok k) a (o, b) = absurd (both_ways _ a o)
   one_answer c cs (Err Unknown) (Err Unknown) a b = refl
-  one_answer c cs (Err Unknown) (Err NoneListed) a (o, b) = absurd (known_not _ o a)
-  one_answer c cs (Err Unknown) (Err TooLong) a (o, b) = absurd (known_not _ o a)
+  one_answer c cs (Err Unknown) (Err NoneListed) a (o, b) = absurd (both_ways _ a o)
+  one_answer c cs (Err Unknown) (Err TooLong) a (o, b) = absurd (both_ways _ a o)
   one_answer c cs (Err NoneListed) (Ok k) (p, a) (o, b) = absurd (listed cs b.terminus a b.lowest)
-  one_answer c cs (Err NoneListed) (Err Unknown) (p, a) b = absurd (known_not _ p b)
+  one_answer c cs (Err NoneListed) (Err Unknown) (p, a) b = absurd (both_ways _ b p)
   one_answer c cs (Err NoneListed) (Err NoneListed) a b = refl
   one_answer c cs (Err NoneListed) (Err TooLong) (p, a) (o, b) = absurd (listed cs b.terminus a b.lowest)
   one_answer c cs (Err TooLong) (Ok k) (p, a) (o, b) = absurd (serves_not c cs k b a)
-  one_answer c cs (Err TooLong) (Err Unknown) (p, a) b = absurd (known_not _ p b)
+  one_answer c cs (Err TooLong) (Err Unknown) (p, a) b = absurd (both_ways _ b p)
   one_answer c cs (Err TooLong) (Err NoneListed) (p, a) (o, b) = absurd (listed cs a.terminus b a.lowest)
   one_answer c cs (Err TooLong) (Err TooLong) a b = refl

@@ -1,4 +1,5 @@
 // The route maker: the head of a packet from a sender to a list of cards, over any wiring.
+// Plain numbers stand for the cards: a struct of a wiring and a card would have each step say that its two cards are of one wiring.
 ghost use Rattle.std.specs.Prelude.{◌≡◌, ℕ, ◌<◌, true, [], ◌∷◌, Some, Result};
 ghost use Rattle.refusal.specs.declared.order.OrderFault.{OrderFault};
 ghost use Rattle.packet.specs.Courses.{sides_told, course_told};
@@ -17,6 +18,7 @@ fn meet<W: Wiring>(wiring: &W, a: u16, b: u16) -> Option<u16>
 {
     let mut x = a;
     let mut y = b;
+    // The two go up in turn, so no iterator over the cards above one of them serves.
     while x != y {
         if x > y {
             x = wiring.parent(x)?.0;
@@ -55,6 +57,7 @@ fn sides_down<W: Wiring>(wiring: &W, top: u16, card: u16) -> Option<Sides>
 {
     let mut at = card;
     let mut sides = Sides::none();
+    // Each link's side is wanted, which the iterator over the cards does not give.
     while at != top {
         // A card below the top has a parent.
         let (parent, side) = wiring.parent(at)?;
