@@ -53,8 +53,8 @@ impl<W: Wiring, P: Policy> Tree<W, P> {
                     .map(|_| Channel::DownLink(card))
             }
             (Station::Down, Input::Turn) => Some(Channel::TurnLink(card)),
-            (Station::Up, Input::Parent | Input::Turn) => None,
-            (Station::Down, Input::Left | Input::Right | Input::Queue) => None,
+            (Station::Up, Input::Parent | Input::Turn)
+            | (Station::Down, Input::Left | Input::Right | Input::Queue) => None,
         };
         channel.ok_or(FireFault::NoInput)
     }

@@ -10,7 +10,7 @@ use station::{CardId, Channel, Here, Hold, Input, Plan, Station};
 use std::array;
 use std::marker::Model;
 
-// There is a place for as many cards as a wiring may have.
+// Fixed memory, with a place for as many cards as a wiring may have.
 #[derive(Drop)]
 pub struct Table {
     cards: [Card; 31],
