@@ -1,29 +1,24 @@
 // Rules, books and layers.
-use licence::{Book, KeyPattern, PatternRule, Policy, RangeRule, Span, Verdict, Withdrawal};
+ghost use Rattle.std.specs.Prelude.{◌≡◌};
+ghost use Rattle.licence.specs.Granted.{granted};
+ghost use Rattle.licence.specs.Rules.{rule_in};
+ghost use Rattle.licence.specs.Ranges.{range_of, in_range};
+ghost use Rattle.licence.specs.Patterns.{pattern_of, in_pattern};
+
+use licence::{Book, KeyPattern, PatternRule, Policy, RangeRule, Rule, Span, Verdict, Withdrawal};
 use refusal::{Fault, LicenceFault};
 use std::test::Fail;
 
-// Does the policy answer each card and key with this class, 9 for 'refuse'?
-fn answers<P: Policy>(policy: &P, cases: &[(u16, u8, u8)]) -> bool {
-    for (card, key, class) in cases {
-        let answer = match policy.ask(*card, *key) {
-            Verdict::Refuse => 9,
-            Verdict::Class(class) => class,
-        };
-        if answer != *class {
-            return false;
-        }
-    }
-    true
+// Does the policy answer each card and key with this verdict?
+fn answers<P: Policy>(policy: &P, cases: &[(u16, u8, Verdict)]) -> bool {
+    cases
+        .iter()
+        .all(|(card, key, verdict)| policy.ask(*card, *key) == *verdict)
 }
 
-fn range(
-    low: u16,
-    high: u16,
-    from: u8,
-    to: u8,
-    verdict: Verdict,
-) -> Result<RangeRule, LicenceFault> {
+fn range(low: u16, high: u16, from: u8, to: u8, verdict: Verdict) -> Result<RangeRule, LicenceFault>
+    ensures { granted rule_in result ≡ range_of (record { low = low; high = high }) (record { low = from; high = to }) verdict }
+{
     RangeRule::new(
         Span { low, high },
         Span {
@@ -32,6 +27,24 @@ fn range(
         },
         verdict,
     )
+}
+
+fn pattern(cards: u32, value: u8, care: u8, verdict: Verdict) -> Result<PatternRule, LicenceFault>
+    ensures { granted rule_in result ≡ pattern_of cards (record { value = value; care = care }) verdict }
+{
+    PatternRule::new(cards, KeyPattern { value, care }, verdict)
+}
+
+fn range_covers(rule: &RangeRule, card: u16, key: u8) -> bool
+    ensures { result ≡ in_range (rule_in rule.now) card key }
+{
+    rule.covers(card, key)
+}
+
+fn pattern_covers(rule: &PatternRule, card: u16, key: u8) -> bool
+    ensures { result ≡ in_pattern (rule_in rule.now) card key }
+{
+    rule.covers(card, key)
 }
 
 fn number_of<T: Drop>(answer: Result<T, LicenceFault>) -> u8 {
@@ -43,17 +56,22 @@ fn number_of<T: Drop>(answer: Result<T, LicenceFault>) -> u8 {
 
 #[test]
 fn a_pattern_with_bits_not_cared_for_is_refused(rt: HostRuntime) {
-    assert_eq!(rt;
-        number_of(PatternRule::new(
-            1,
-            KeyPattern {
-                value: 0x12,
-                care: 0x10,
-            },
-            Verdict::Class(1),
-        )),
-        3
-    );
+    assert_eq!(rt; number_of(pattern(1, 0x12, 0x10, Verdict::Class(1))), 3);
+}
+
+#[test]
+fn a_rule_covers_both_of_its_sets(rt: HostRuntime) -> Result<(), Fail> {
+    let Ok(spans) = range(1, 2, 0x11, 0x12, Verdict::Refuse) else {
+        return Err(Fail::new("the range rule is refused"));
+    };
+    assert!(rt; range_covers(&spans, 1, 0x11) && range_covers(&spans, 2, 0x12));
+    assert!(rt; !range_covers(&spans, 3, 0x11) && !range_covers(&spans, 2, 0x10));
+    let Ok(bits) = pattern(0x5, 0x01, 0x03, Verdict::Refuse) else {
+        return Err(Fail::new("the pattern rule is refused"));
+    };
+    assert!(rt; pattern_covers(&bits, 0, 0x01) && pattern_covers(&bits, 2, 0x05));
+    assert!(rt; !pattern_covers(&bits, 1, 0x01) && !pattern_covers(&bits, 2, 0x03));
+    Ok(())
 }
 
 #[test]
@@ -71,7 +89,12 @@ fn the_first_covering_rule_decides(rt: HostRuntime) -> Result<(), Fail> {
     assert!(rt;
         answers(
             &book,
-            &[(1, 0x11, 9), (0, 0x11, 2), (2, 0x1f, 2), (3, 0x1f, 9)],
+            &[
+                (1, 0x11, Verdict::Refuse),
+                (0, 0x11, Verdict::Class(2)),
+                (2, 0x1f, Verdict::Class(2)),
+                (3, 0x1f, Verdict::Refuse)
+            ],
         )
     );
     Ok(())
@@ -79,14 +102,7 @@ fn the_first_covering_rule_decides(rt: HostRuntime) -> Result<(), Fail> {
 
 #[test]
 fn layers_stack_over_a_book(rt: HostRuntime) -> Result<(), Fail> {
-    let Ok(odd) = PatternRule::new(
-        0x4000_0005,
-        KeyPattern {
-            value: 0x01,
-            care: 0x01,
-        },
-        Verdict::Class(3),
-    ) else {
+    let Ok(odd) = pattern(0x4000_0005, 0x01, 0x01, Verdict::Class(3)) else {
         return Err(Fail::new("the rule is refused"));
     };
     let rules = [odd];
@@ -101,15 +117,20 @@ fn layers_stack_over_a_book(rt: HostRuntime) -> Result<(), Fail> {
         answers(
             &layers,
             &[
-                (30, 0x05, 3),
-                (1, 0x05, 9),
-                (31, 0x05, 9),
-                (2, 0x07, 9),
-                (2, 0x09, 9),
+                (30, 0x05, Verdict::Class(3)),
+                (1, 0x05, Verdict::Refuse),
+                (31, 0x05, Verdict::Refuse),
+                (2, 0x07, Verdict::Refuse),
+                (2, 0x09, Verdict::Refuse),
             ],
         )
     );
     layers.restore(0x09);
-    assert!(rt; answers(&layers, &[(2, 0x07, 9), (2, 0x09, 3)]));
+    assert!(rt;
+        answers(
+            &layers,
+            &[(2, 0x07, Verdict::Refuse), (2, 0x09, Verdict::Class(3))]
+        )
+    );
     Ok(())
 }
