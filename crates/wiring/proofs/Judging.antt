@@ -1,7 +1,8 @@
 -- A table is sound exactly if the tree that it lists keeps the laws.
-use Rattle.std.proofs.Common.{◌≡◌, ℕ, ◌/◌, ◌%◌, ◌<◌, true, eqb, ltb, ◌⊎◌, List, length, is_some, Some, None, Option, sym, refl, ap, ◌∙◌, subst, inl, inr, arith}
-use Rattle.std.proofs.lemmas.Bool.{eqb-true, eqb-false, lt-ltb, le-ltb, eq-eqb, ne_eqb, cases_eq, cases_lt, cond-true, cond-false, false≢true}
+use Rattle.std.proofs.Common.{◌≡◌, ℕ, ◌/◌, ◌%◌, ◌<◌, true, eqb, ◌⊎◌, List, length, is_some, Some, None, Option, sym, refl, ap, ◌∙◌, subst, inl, inr, arith}
+use Rattle.std.proofs.lemmas.Bool.{false≢true}
 use Rattle.std.specs.List.{position, position_or_len}
+use Rattle.std.proofs.lemmas.Grind.{common_steps}
 use Rattle.std.proofs.lemmas.List.Sums.{fails_before_first}
 use Rattle.std.proofs.lemmas.List.Quantifiers.{position-Some}
 use Rattle.std.proofs.lemmas.Option.{same_Some}
@@ -9,7 +10,7 @@ use Rattle.packet.specs.declared.sides.Side.{Side}
 use Rattle.packet.specs.declared.sides.Side.TheVariants.{Left, Right}
 use Rattle.packet.specs.Routes.{side_of}
 use Rattle.wiring.specs.Shapes.{Shape, Lawful}
-use Rattle.wiring.specs.Tables.{Sized, no_entry, listed_cards, entry_of, entry_at, listed_by, listed_daughter, IsTreeOf, Sound}
+use Rattle.wiring.specs.Tables.{Sized, no_entry, listed_cards, entry_of, entry_at, listed_by, IsTreeOf, Sound}
 use Rattle.wiring.specs.Wireds.{listed_shape}
 
 -- the side of a place
@@ -17,33 +18,23 @@ abbrev pub side_at : ℕ → Side
 side_at p = side_of (eqb (p % 2) 1)
 
 pub entry_back : (p : ℕ) → entry_of (p / 2) (side_at p) ≡ p
-entry_back p =
-    elim (cases_eq (p % 2) 1) [
-      | inl e ↦ rw (eq-eqb (p % 2) 1 e) (omega arith)
-      | inr n ↦ rw (ne_eqb (p % 2) 1 n) (omega arith)
-    ]
+entry_back p = grind (arith, common_steps)
 
 pub none_or_some : {A : Type 0} (o : Option A) → (o ≡ None) ⊎ ((x : A) × (o ≡ Some x))
 none_or_some None = inl refl
 none_or_some (Some x) = inr (x, refl)
 
 pub listed_some : (e c : ℕ) → listed_by e ≡ Some c → (e ≡ c) × (e ≡ no_entry → ⊥)
-listed_some e c h =
-    elim (cases_eq e no_entry) [
-      | inl s ↦ let z : ◌≡◌ {A = Option ℕ} None (Some c) = sym (cond-true (eqb e no_entry) None (Some e) (eq-eqb e no_entry s)) ∙ h in cc
-      | inr n ↦ let s : Some e ≡ Some c = sym (cond-false (eqb e no_entry) None (Some e) (ne_eqb e no_entry n)) ∙ h in (cc, n)
-    ]
+listed_some e c h = grind (arith, common_steps)
 
 pub listed_is : (e : ℕ) → (e ≡ no_entry → ⊥) → listed_by e ≡ Some e
-listed_is e n = cond-false (eqb e no_entry) None (Some e) (ne_eqb e no_entry n)
+listed_is e n = grind (arith, common_steps)
 
 -- the first place of a card that stands somewhere
 first_place : (c : ℕ) (t : List ℕ) (i : ℕ) → i < length t → entry_at t i ≡ c → (p : ℕ) × (position (λ e. eqb e c) t ≡ Some p)
 first_place c t i l e =
-    elim (cases_lt (position_or_len (λ e. eqb e c) t) (length t)) [
-      | inl m ↦ (position_or_len (λ e. eqb e c) t, cond-true (ltb (position_or_len (λ e. eqb e c) t) (length t)) (Some (position_or_len (λ e. eqb e c) t)) None (lt-ltb (position_or_len (λ e. eqb e c) t) (length t) m))
-      | inr m ↦ absurd (eqb-false (entry_at t i) c (fails_before_first (λ e. eqb e c) t i 255 (omega arith)) e)
-    ]
+    let first = fails_before_first (λ e. eqb e c) t i 255 in
+    (position_or_len (λ e. eqb e c) t, grind (arith, common_steps))
 
 -- the card of an entry
 pub entry_half : (p : ℕ) (b : Side) → entry_of p b / 2 ≡ p
@@ -59,23 +50,18 @@ module _ (t : List ℕ) (s : Shape) (sized : Sized t) (tree : IsTreeOf t s) wher
   -- the card that an entry names has the entry's card and side as its parent
   named_parent : (i c : ℕ) → i < length t → entry_at t i ≡ c → (c ≡ no_entry → ⊥) → s.parent c ≡ Some (i / 2, side_at i)
   named_parent i c l e n =
-      let b : i / 2 < listed_cards t = omega (arith, sized.0) in
-      let w : entry_at t (entry_of (i / 2) (side_at i)) ≡ c = ap (entry_at t) (entry_back i) ∙ e in
-      let k : listed_daughter t (side_at i) (i / 2) ≡ Some c = rw (lt-ltb (i / 2) (listed_cards t) b, w) (listed_is c n) in
-      tree.lawful.told (side_at i) (i / 2) c (tree.lists.daughters (side_at i) (i / 2) ∙ k)
+      let back = entry_back i in
+      let told = tree.lawful.told (side_at i) (i / 2) c in
+      let listed = tree.lists.daughters (side_at i) (i / 2) in
+      grind (arith, common_steps)
 
   -- a card's parent names it in the entry on its side
   parent_names : (c p : ℕ) (b : Side) → s.parent c ≡ Some (p, b) → (entry_of p b < length t) × (entry_at t (entry_of p b) ≡ c)
   parent_names c p b e =
-      let k : listed_daughter t b p ≡ Some c = sym (tree.lists.daughters b p) ∙ tree.lawful.tells b p c e in
-      elim (cases_lt p (listed_cards t)) [
-        | inl l ↦
-            let named = listed_some (entry_at t (entry_of p b)) c (sym (cond-true (ltb p (listed_cards t)) (listed_by (entry_at t (entry_of p b))) None (lt-ltb p (listed_cards t) l)) ∙ k) in
-            (entry_within t p b l, named.0)
-        | inr l ↦
-            let z : ◌≡◌ {A = Option ℕ} None (Some c) = sym (cond-false (ltb p (listed_cards t)) (listed_by (entry_at t (entry_of p b))) None (le-ltb p (listed_cards t) l)) ∙ k in
-            cc
-      ]
+      let tells = tree.lawful.tells b p c e in
+      let listed = tree.lists.daughters b p in
+      let within = entry_within t p b in
+      grind (arith, common_steps, listed_some)
 
   pub tree_sound : Sound t
   tree_sound =
@@ -103,16 +89,9 @@ module _ (t : List ℕ) (s : Shape) (sized : Sized t) (tree : IsTreeOf t s) wher
   -- so the tree that is listed is this tree
   same_parent : (c : ℕ) → s.parent c ≡ (listed_shape t).parent c
   same_parent c =
-      elim (cases_lt c (listed_cards t)) [
-        | inl l ↦
-            elim (none_or_some (position (λ e. eqb e c) t)) [
-              | inl none ↦
-                  rw (lt-ltb c (listed_cards t) l, none)
-                  (elim (none_or_some (s.parent c)) [ inl e ↦ e | inr (x, e) ↦ let k = parent_names c x.0 x.1 e in let (p, f) = first_place c t (entry_of x.0 x.1) k.0 k.1 in cc ])
-              | inr (p, e) ↦ let k = position-Some (λ e. eqb e c) t p 255 e in rw (lt-ltb c (listed_cards t) l, e) (named_parent p c k.0 (eqb-true (entry_at t p) c k.1) (omega (arith, sized.2)))
-            ]
-        | inr l ↦
-            rw (le-ltb c (listed_cards t) l) (elim (none_or_some (s.parent c)) [ inl e ↦ e | inr (x, e) ↦ absurd (omega (arith, tree.lawful.below c x.0 x.1 e, tree.lists.cards)) ])
+      elim (none_or_some (s.parent c)) [
+        | inl e ↦ let p = position-Some (λ e. eqb e c) t in let w = named_parent in grind (arith, common_steps)
+        | inr (x, e) ↦ let p = position-Some (λ e. eqb e c) t in let w = named_parent in let k = parent_names c x.0 x.1 e in let f = first_place c t (entry_of x.0 x.1) k.0 k.1 in let m = tree.lawful.below c x.0 x.1 e in grind (arith, common_steps)
       ]
 
   pub tree_lawful : Lawful (listed_shape t)

@@ -1,8 +1,9 @@
 -- The cards linked, entry by entry.
 use Rattle.std.proofs.Common.{add-zero, ◌≡◌, ℕ, ◌+◌, ◌*◌, ◌/◌, ◌<◌, ◌≤◌, cond, eqb, ltb, ◌⊎◌, List, length, get_or, drop, replicate, ◌++◌, is_some, Some, None, Option, sym, refl, ap, ◌∙◌, subst, inl, inr, arith}
-use Rattle.std.proofs.lemmas.Bool.{lt-ltb, le-ltb, eq-eqb, cases_eq, cases_lt, cond-true}
-use Rattle.std.proofs.lemmas.Option.{same_Some, some_pair_parts, MatchOption-at_some}
-use Rattle.std.proofs.lemmas.List.{get_or_default, get_or-drop, drop-drop, drop_at, length-drop, length-append, get_or-replicate, get_or_past, length-replicate, get_or_append_left}
+use Rattle.std.proofs.lemmas.Grind.{common_steps}
+use Rattle.std.proofs.lemmas.Bool.{le-ltb, eq-eqb, cases_eq, cases_lt, cond-true}
+use Rattle.std.proofs.lemmas.Option.{MatchOption-at_some}
+use Rattle.std.proofs.lemmas.List.{places, drop-drop, drop_at, length-drop, length-append, get_or_past, length-replicate, get_or_append_left}
 use Rattle.packet.specs.declared.sides.Side.{Side}
 use Rattle.packet.specs.declared.sides.Side.TheVariants.{Left, Right}
 use Rattle.wiring.specs.declared.wired.Links.{Links}
@@ -26,15 +27,11 @@ entry_same p q Left Right e = absurd (omega arith)
 entry_same p q Right Left e = absurd (omega arith)
 
 is_or_not : (o : Option ℕ) (c : ℕ) → (o ≡ Some c) ⊎ (o ≡ Some c → ⊥)
-is_or_not None c = inr (λ e. cc)
-is_or_not (Some d) c = elim (cases_eq d c) [ inl e ↦ inl (ap Some e) | inr n ↦ inr (λ e. n (same_Some d c e)) ]
+is_or_not None c = grind (arith, common_steps)
+is_or_not (Some d) c = grind (arith, common_steps)
 
 none_linked : (n c : ℕ) → get_or (replicate n unlinked) c unlinked ≡ unlinked
-none_linked n c =
-    elim (cases_lt c n) [
-      | inl l ↦ get_or-replicate n c unlinked unlinked l
-      | inr l ↦ get_or_past (replicate n unlinked) c unlinked (rw length-replicate l)
-    ]
+none_linked n c = grind (arith, common_steps)
 
 no_daughter : (b : Side) → daughter_by b unlinked ≡ None
 no_daughter Left = refl
@@ -44,20 +41,19 @@ no_daughter Right = refl
 pub linked_none : (t : List ℕ) → LinkedUpTo t (replicate (listed_cards t) unlinked) 0
 linked_none t =
     let n = listed_cards t in
-    let no_parent : (c : ℕ) → parent_in (replicate n unlinked) c ≡ None = λ c. ap (λ (l : Links). l.parent) (none_linked n c) in
-    let bare : (b : Side) (c : ℕ) → daughter_in (replicate n unlinked) b c ≡ None = λ b c. ap (daughter_by b) (none_linked n c) ∙ no_daughter b in
+    let bare = none_linked n in
     record {
       size = length-replicate n unlinked;
-      below = λ c p b e. let z = no_parent c in cc;
-      told = λ b p c e. let z = bare b p in cc;
-      tells = λ b p c e. let z = no_parent c in cc;
+      below = λ c p b e. let z = bare c in grind (arith, common_steps);
+      told = λ b p c e. let z = bare p in let y = no_daughter b in grind (arith, common_steps);
+      tells = λ b p c e. let z = bare c in grind (arith, common_steps);
       listed = λ b p e. absurd (omega arith);
-      past = λ b p e. bare b p;
+      past = λ b p e. let z = bare p in let y = no_daughter b in grind (arith, common_steps);
     }
 
 -- fewer than two entries are left, so none
 pub table_end : (t rest : List ℕ) (c : ℕ) → Sized t → rest ≡ drop (2 * c) t → 2 * c ≤ length t → length rest < 2 → 2 * c ≡ length t
-table_end t rest c sized e l few = omega (arith, sized.0, ap length e, length-drop (2 * c) t)
+table_end t rest c sized e l few = grind (arith, common_steps)
 
 -- the next entry, which is p's on side b
 module _ (t : List ℕ) (ls : List Links) (p : ℕ) (b : Side) (named : Option ℕ) (is : named ≡ listed_by (entry_at t (entry_of p b))) (h : LinkedUpTo t ls (entry_of p b)) where
@@ -69,28 +65,10 @@ module _ (t : List ℕ) (ls : List Links) (p : ℕ) (b : Side) (named : Option �
       let up : (c : ℕ) → named ≡ Some c → parent_in new c ≡ Some (p, b) = λ c e. MatchOption-at_some (Unit {0}) (λ d. parent_in new d ≡ Some (p, b)) c e k.parent in
       record {
         size = k.size ∙ h.size;
-        below = λ c q s e.
-            elim (is_or_not named c) [
-              | inl n ↦ let (x, y) = some_pair_parts p q b s (sym (up c n) ∙ e) in let m = may c n in (omega (arith, x, m.0), omega (arith, m.1, k.size))
-              | inr n ↦ let m = h.below c q s (sym (k.other_parents c n) ∙ e) in (m.0, omega (arith, m.1, k.size))
-            ];
-        told = λ s q c e.
-            elim (cases_eq (entry_of q s) (entry_of p b)) [
-              | inl i ↦ let (x, y) = entry_same q p s b i in rw (x, y) (up c (sym (here s q i) ∙ e))
-              | inr n ↦ let f = h.told s q c (sym (k.other_daughters s q n) ∙ e) in k.other_parents c (λ m. let z = (may c m).2 in cc) ∙ f
-            ];
-        tells = λ s q c e.
-            elim (is_or_not named c) [
-              | inl n ↦ let (x, y) = some_pair_parts p q b s (sym (up c n) ∙ e) in rw (sym x, sym y) (k.daughter ∙ n)
-              | inr n ↦
-                  let f = h.tells s q c (sym (k.other_parents c n) ∙ e) in
-                  k.other_daughters s q (λ i. let z : daughter_in ls s q ≡ None = h.past s q (omega (arith, i)) in cc) ∙ f
-            ];
-        listed = λ s q e.
-            elim (cases_eq (entry_of q s) (entry_of p b)) [
-              | inl i ↦ here s q i ∙ is ∙ ap (λ (j : ℕ). listed_by (entry_at t j)) (sym i)
-              | inr n ↦ k.other_daughters s q n ∙ h.listed s q (omega (arith, n))
-            ];
+        below = λ c q s e. elim (is_or_not named c) [ inl n ↦ let u = up c n in let m = may c n in grind (arith, common_steps) | inr n ↦ let m = k.other_parents c n in let w = h.below c q s in grind (arith, common_steps) ];
+        told = λ s q c e. elim (cases_eq (entry_of q s) (entry_of p b)) [ inl i ↦ let x = entry_same q p s b i in let y = here s q i in let u = up c in grind (arith, common_steps) | inr n ↦ let f = h.told s q c in let o = k.other_daughters s q n in let m = may c in let r = k.other_parents c in grind (arith, common_steps) ];
+        tells = λ s q c e. elim (is_or_not named c) [ inl n ↦ let u = up c n in let d = k.daughter in grind (arith, common_steps) | inr n ↦ let f = h.tells s q c in let m = k.other_parents c n in let w = h.past s q in let o = k.other_daughters s q in grind (arith, common_steps) ];
+        listed = λ s q e. let x = here s q in let o = k.other_daughters s q in let l = h.listed s q in grind (arith, common_steps);
         past = λ s q e. k.other_daughters s q (λ j. omega (arith, j, next)) ∙ h.past s q (omega arith);
       }
 
@@ -112,13 +90,10 @@ module _ (t : List ℕ) (ls : List Links) (p : ℕ) (b : Side) (named : Option �
                     | inl f ↦ f
                     | inr (x, f) ↦
                         let d = h.tells x.1 x.0 e f in
-                        elim (cases_lt (entry_of x.0 x.1) i) [
-                          | inl l ↦
-                              let (g, _) = listed_some (entry_at t (entry_of x.0 x.1)) e (sym (h.listed x.1 x.0 l) ∙ d) in
-                              let w = once.only (entry_of x.0 x.1) (omega (arith, l, within)) g in
-                              absurd (omega (arith, here, w, l))
-                          | inr l ↦ let w = h.past x.1 x.0 l in cc
-                        ]
+                        let l = h.listed x.1 x.0 in
+                        let w = h.past x.1 x.0 in
+                        let o = once.only (entry_of x.0 x.1) in
+                        grind (arith, common_steps, listed_some)
                   ] in
                   barred (subst (MayStand ls p) (sym (is ∙ listed_is e n)) (omega (arith, entry_half p b, ap (λ (j : ℕ). j / 2) here, once.lower), omega (arith, h.size, m), free))
               | inr z ↦ sound.rootless i within (omega (arith, z))
@@ -128,7 +103,7 @@ module _ (t : List ℕ) (ls : List Links) (p : ℕ) (b : Side) (named : Option �
 -- the next two entries, which are p's
 module _ (t : List ℕ) (ls : List Links) (p : ℕ) (xs rest : List ℕ) (e : drop (2 * p) t ≡ xs ++ rest) (two : length xs ≡ 2) (h : LinkedUpTo t ls (2 * p)) where
   at : (k : ℕ) → k < 2 → get_or xs k 0 ≡ entry_at t (2 * p + k)
-  at k l = get_or_default xs k 0 255 (omega arith) ∙ sym (get_or_append_left xs rest 255 k (omega arith)) ∙ ap (λ (z : List ℕ). get_or z k 255) (sym e) ∙ get_or-drop (2 * p) t k 255
+  at k l = grind (arith, common_steps, places)
 
   first : get_or xs 0 0 ≡ entry_at t (2 * p)
   first = rw (← add-zero (2 * p)) (at 0 (omega arith))
@@ -165,15 +140,13 @@ module _ (t : List ℕ) (ls : List Links) (sized : Sized t) (h : LinkedUpTo t ls
   pub all_linked : AllHaveParents ls → IsTreeOf t (linked_shape (listed_cards t) ls)
   all_linked others =
       let n = listed_cards t in
-      let past : (c : ℕ) → n ≤ c → get_or ls c unlinked ≡ unlinked = λ c l. get_or_past ls c unlinked (omega (arith, h.size, l)) in
-      let parent : (c : ℕ) → (linked_shape n ls).parent c ≡ parent_in ls c = λ c.
-      elim (cases_lt c n) [ inl l ↦ rw (lt-ltb c n l) refl | inr l ↦ rw (le-ltb c n l) (sym (ap (λ (x : Links). x.parent) (past c l))) ] in
-      let daughter : (b : Side) (c : ℕ) → (linked_shape n ls).daughter b c ≡ daughter_in ls b c = λ b c.
-      elim (cases_lt c n) [ inl l ↦ rw (lt-ltb c n l) refl | inr l ↦ rw (le-ltb c n l) (sym (ap (daughter_by b) (past c l) ∙ no_daughter b)) ] in
+      let past = λ (c : ℕ). get_or_past ls c unlinked in
+      let parent : (c : ℕ) → (linked_shape n ls).parent c ≡ parent_in ls c = λ c. let p = past c in grind (arith, common_steps) in
+      let daughter : (b : Side) (c : ℕ) → (linked_shape n ls).daughter b c ≡ daughter_in ls b c = λ b c. let p = past c in let d = no_daughter b in grind (arith, common_steps) in
       record {
         lists = record {
           cards = refl;
-          daughters = λ b c. elim (cases_lt c n) [ inl l ↦ rw (lt-ltb c n l) (h.listed b c (entry_within t c b l)) | inr l ↦ rw (le-ltb c n l) refl ];
+          daughters = λ b c. let l = h.listed b c in let w = entry_within t c b in grind (arith, common_steps);
         };
         lawful = record {
           some = sized.1;

@@ -1,5 +1,4 @@
 // The wired tree as a wiring: a card's links tell its daughters and its parent.
-ghost use Rattle.std.specs.Prelude.{◌≡◌};
 ghost use Rattle.wiring.specs.Tables.{Wired};
 ghost use Rattle.wiring.specs.Wireds.{wired_shape, wired_told, Judged};
 
