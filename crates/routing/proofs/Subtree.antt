@@ -91,14 +91,6 @@ module _ (s : Shape) (L : Lawful s) where
   covers_none t d l e =
       sym (covers_step t d ∙ (ap (λ (o : Option (ℕ × Side)). eqb t d || of_parent (covers s t) o) (sym e) ∙ ap (λ (x : Bool). x || false) (ne_eqb t d (λ q. omega arith))))
 
-  -- at the top or past it
-  pub covers_end : (t d : ℕ) → d ≤ t → eqb d t ≡ covers s t d
-  covers_end t d l = by (covers s t d) refl
-    where
-      by : (x : Bool) → covers s t d ≡ x → eqb d t ≡ covers s t d
-      by true e = eq-eqb d t (let u = covers_le t d e in omega arith) ∙ sym e
-      by false e = ne_eqb d t (λ q. absurd (let z : true ≡ false = sym (covers_self t) ∙ (ap (covers s t) (sym q) ∙ e) in grind arith)) ∙ sym e
-
   -- what stands over a card stands over all below it
   in_over : (k u t d : ℕ) → covers s u t ≡ true → covers_in s k t d ≡ true → covers s u d ≡ true
   unfolding covers_in

@@ -9,10 +9,6 @@ use Rattle.routing.specs.Subtrees.{of_parent, covers_in, covers}
 use Rattle.routing.proofs.Subtree.{or_cases, covers_le, covers_none, covers_other}
 
 module _ (s : Shape) where
-  pub climb_none : (c : ℕ) → climb s 0 c ≡ Some c
-  unfolding climb
-  climb_none c = refl
-
   -- one link more
   pub climb_more : (a c d p : ℕ) (b : Side) → climb s a c ≡ Some d → s.parent d ≡ Some (p, b) → climb s (a + 1) c ≡ Some p
   unfolding climb
