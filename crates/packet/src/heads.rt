@@ -4,10 +4,11 @@ ghost use Rattle.packet.specs.Routes.{route_in};
 ghost use Rattle.packet.specs.Heads.{mode_of, mode_name, head_word, key_word_of, stamped};
 
 use crate::routes::Route;
+use crate::steps::floods;
 use std::fmt;
 
 // A packet goes to one card, or floods a card and all cards below it.
-#[derive(Clone, Copy)]
+#[derive(Clone, Copy, PartialEq, Eq)]
 pub enum Mode {
     Target,
     Flood,
@@ -33,11 +34,12 @@ pub struct Head {
 
 impl Head {
     // The mode and the route of a head. Its other bits are dropped, so this is no From.
+    #[tactic(auto, unfolding(crate::specs::Heads::floods))]
     pub fn read(word: u32) -> Head
         ensures mode { result.mode ≡ mode_of word }
         ensures route { result.route ≡ route_in word }
     {
-        let mode = if word / 0x2000_0000 % 2 == 1 {
+        let mode = if floods(word) {
             Mode::Flood
         } else {
             Mode::Target

@@ -49,10 +49,10 @@ fn reserved_fault(head: u32, key: u32) -> Option<usize>
 pub fn check(packet: &[u32]) -> Result<Head, PacketFault>
     ensures { header_told result ≡ check_packet packet.now }
 {
-    let [head, key, ..] = packet else {
+    let [head, key, rest @ ..] = packet else {
         return Err(PacketFault::Length);
     };
-    if packet.len() > 64 {
+    if rest.len() > 62 {
         return Err(PacketFault::Length);
     }
     if let Some(place) = kind_fault(packet) {

@@ -3,10 +3,11 @@ ghost use Rattle.std.specs.Prelude.{◌≡◌, ◌<◌, Some};
 ghost use Rattle.packet.specs.Words.{bit};
 ghost use Rattle.packet.specs.Routes.{side_of, side_letter};
 
+use crate::words::bit;
 use std::fmt;
 
 // A daughter is her parent's left or right one.
-#[derive(Clone, Copy)]
+#[derive(Clone, Copy, PartialEq, Eq)]
 pub enum Side {
     Left,
     Right,
@@ -28,7 +29,7 @@ pub(crate) fn side_at(bits: u16, k: u16) -> Side
     requires { k < 16 }
     ensures { result ≡ side_of (bit k bits) }
 {
-    if (bits >> k) % 2 == 1 {
+    if bit(u32::from(k), u32::from(bits)) {
         Side::Right
     } else {
         Side::Left

@@ -3,12 +3,14 @@ ghost use Rattle.std.specs.Prelude.{◌≡◌};
 ghost use Rattle.packet.specs.Routes.{top_bit, stops, advance};
 ghost use Rattle.packet.specs.Heads.{floods};
 
+use crate::words::bit;
+
 // The bit of a head's route that is read next.
 #[tactic(auto, unfolding(crate::specs::Routes::top_bit))]
 pub fn top_bit(head: u32) -> bool
     ensures { result ≡ top_bit head }
 {
-    head / 256 % 2 == 1
+    bit(8, head)
 }
 
 // No 1 is left in the route once it is moved up.
@@ -32,5 +34,5 @@ pub fn advance(head: u32) -> u32
 pub fn floods(head: u32) -> bool
     ensures { result ≡ floods head }
 {
-    head / 0x2000_0000 % 2 == 1
+    bit(29, head)
 }

@@ -1,6 +1,6 @@
-// The kind of a word: its two highest bits.
-ghost use Rattle.std.specs.Prelude.{◌≡◌};
-ghost use Rattle.packet.specs.Words.{kind_of};
+// A word: its kind, which is its two highest bits, and its bits one by one.
+ghost use Rattle.std.specs.Prelude.{◌≡◌, ◌<◌};
+ghost use Rattle.packet.specs.Words.{bit, kind_of};
 
 // What a word is in its packet.
 #[derive(Clone, Copy, PartialEq, Eq)]
@@ -23,4 +23,12 @@ impl Kind {
             _ => Kind::Unused,
         }
     }
+}
+
+// Whether bit k of a word is 1.
+pub(crate) fn bit(k: u32, word: u32) -> bool
+    requires { k < 32 }
+    ensures { result ≡ bit k word }
+{
+    (word >> k) % 2 == 1
 }

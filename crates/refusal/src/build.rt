@@ -8,7 +8,7 @@ use crate::fault::{Fault, write_sentence};
 use std::fmt;
 
 // A wiring that is not built: its size, or a table that is no tree.
-#[derive(Clone, Copy)]
+#[derive(Clone, Copy, PartialEq, Eq)]
 pub enum WiringFault {
     Size,
     Broken,

@@ -79,13 +79,13 @@ impl<W: Wiring, P: Policy> Tree<W, P> {
     fn follow(&self, card: CardId, head: u32, word: u32, here: Here) -> Plan<CardId>
         ensures { result ≡ down_by (W.shape self.now.wiring) card head word here }
     {
-        let left = self.daughter(card, Side::Left);
-        let right = self.daughter(card, Side::Right);
+        let left = || self.daughter(card, Side::Left);
+        let right = || self.daughter(card, Side::Right);
         let (left, right) = match (stops(head), floods(head), top_bit(head)) {
-            (true, true, _) => (left, right),
+            (true, true, _) => (left(), right()),
             (true, false, _) => (None, None),
-            (false, _, true) => (None, right),
-            (false, _, false) => (left, None),
+            (false, _, true) => (None, right()),
+            (false, _, false) => (left(), None),
         };
         Plan {
             up: false,

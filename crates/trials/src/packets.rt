@@ -6,16 +6,15 @@ use std::test::Fail;
 #[test]
 fn two_up_then_right(rt: HostRuntime) -> Result<(), Fail> {
     let head = Head::read(0xa000_01b0);
-    assert!(rt; matches!(head.mode, Mode::Flood));
+    assert!(rt; head.mode == Mode::Flood);
     let Some(course) = head.route.course() else {
         return Err(Fail::new("the route ends on the way up"));
     };
     assert_eq!(rt; course.ups, 2);
-    let Some(first) = course.sides.split_first() else {
+    let Some((side, rest)) = course.sides.split_first() else {
         return Err(Fail::new("no descent"));
     };
-    let (side, rest) = first;
-    assert!(rt; matches!(side, Side::Right));
+    assert!(rt; side == Side::Right);
     assert_eq!(rt; rest.count(), 0);
     let Some(route) = course.route() else {
         return Err(Fail::new("no route"));

@@ -10,12 +10,6 @@ fn full(levels: u16) -> Result<FullTree, Fail> {
     FullTree::new(levels).map_err(|_| Fail::new("no such full tree"))
 }
 
-// The parent of a card, and whether the card is the right daughter.
-fn above(tree: &FullTree, card: u16) -> Option<(u16, bool)> {
-    let (parent, side) = tree.parent(card)?;
-    Some((parent, matches!(side, Side::Right)))
-}
-
 #[test]
 fn full_trees(rt: HostRuntime) -> Result<(), Fail> {
     assert_eq!(rt; number_of(FullTree::new(0)), Some(1));
@@ -26,11 +20,11 @@ fn full_trees(rt: HostRuntime) -> Result<(), Fail> {
     assert_eq!(rt; tree.daughter(14, Side::Right), Some(30));
     assert_eq!(rt; tree.daughter(15, Side::Left), None);
     assert_eq!(rt; tree.daughter(65535, Side::Right), None);
-    assert_eq!(rt; above(&tree, 0), None);
-    assert_eq!(rt; above(&tree, 29), Some((14, false)));
-    assert_eq!(rt; above(&tree, 30), Some((14, true)));
-    assert_eq!(rt; above(&tree, 31), None);
-    assert_eq!(rt; above(&tree, 65535), None);
+    assert!(rt; tree.parent(0) == None);
+    assert!(rt; tree.parent(29) == Some((14, Side::Left)));
+    assert!(rt; tree.parent(30) == Some((14, Side::Right)));
+    assert!(rt; tree.parent(31) == None);
+    assert!(rt; tree.parent(65535) == None);
     Ok(())
 }
 

@@ -46,10 +46,10 @@ fn a_packet_is_carried(rt: HostRuntime) -> Result<(), Fail> {
     assert_eq!(rt; fire(&mut tree, 1, Station::Down, Input::Turn), Ok(0));
     assert_eq!(rt; fire(&mut tree, 1, Station::Up, Input::Queue), Ok(2));
     assert_eq!(rt; fire(&mut tree, 1, Station::Down, Input::Turn), Ok(16));
-    match tree.take(1) {
-        Ok(word) => assert_eq!(rt; word, 0x11),
-        Err(_) => return Err(Fail::new("nothing to take")),
-    }
+    let Ok(word) = tree.take(1) else {
+        return Err(Fail::new("nothing to take"));
+    };
+    assert_eq!(rt; word, 0x11);
     assert_eq!(rt; fire(&mut tree, 1, Station::Down, Input::Turn), Err(14));
     assert_eq!(rt; tree.owed(), 2);
     Ok(())

@@ -1,5 +1,5 @@
 // A route written for what it is to ask for.
-ghost use Rattle.std.specs.Prelude.{◌≡◌, ℕ, [], length, ◌<◌, Some, IfSome};
+ghost use Rattle.std.specs.Prelude.{◌≡◌, ◌<◌, [], length, Some, IfSome};
 ghost use Rattle.packet.specs.Routes.{write_route, read_route};
 ghost use Rattle.packet.specs.Courses.{sides_in, sides_told, sides_before, split_sides, split_told, course_of};
 
