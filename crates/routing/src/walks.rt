@@ -42,10 +42,7 @@ fn descended<W: Wiring>(wiring: &W, card: u16, sides: Sides) -> Result<u16, Rout
 pub fn walk_route<W: Wiring>(wiring: &W, card: u16, route: Route) -> Result<Walk, RouteFault>
     ensures { result ≡ walk_of (W.shape wiring.now) card route }
 {
-    let Some(course) = route.course() else {
-        return Err(RouteFault::EndsGoingUp { card });
-    };
-    let Course { ups, sides } = course;
+    let Course { ups, sides } = route.course().ok_or(RouteFault::EndsGoingUp { card })?;
     let turn = climbed(wiring, card, ups).ok_or(RouteFault::AboveRoot)?;
     let terminus = descended(wiring, turn, sides)?;
     Ok(Walk {
