@@ -12,7 +12,7 @@ use std::alloc::Global;
 use text::{Fields, decimal};
 use wiring::{FullTree, WiredTree, Wiring};
 
-// A wiring of either kind.
+// A wiring of either kind. An enum, since a function may not hand out a `dyn Wiring` that it made.
 #[derive(Clone, Copy)]
 pub enum Cabinet {
     Full(FullTree),

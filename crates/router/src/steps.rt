@@ -1,4 +1,4 @@
-// Each call's answer and its next tree.
+// Each call's answer and its next tree. That wiring and policy stay (SameParts) is what a call promises, so each step hands it on.
 ghost use Rattle.std.specs.Prelude.{◌≡◌, ◌+◌, ◌≤◌, length, IfOk};
 ghost use Rattle.packet.specs.Packets.{check_packet};
 ghost use Rattle.network.specs.Cards.{card_at};

@@ -7,6 +7,7 @@ use crate::hold::{Here, Hold, Input};
 use packet::{advance, top_bit};
 
 // What one fire writes: a word to the links named, where C names a daughter, and what becomes of the word at the card itself.
+// Up and turn are plain flags and no Options of a word, since all links named get the one word.
 #[derive(Clone, Copy)]
 pub struct Plan<C> {
     pub up: bool,
@@ -18,7 +19,7 @@ pub struct Plan<C> {
 }
 
 impl<C> Plan<C> {
-    // The outputs written, as a sum.
+    // The outputs written, as a sum: a number, since it is the product's answer to the host.
     pub fn sum(&self) -> u8
         ensures { result ≡ sum_of self.now }
     {

@@ -21,7 +21,7 @@ const UNLINKED: Links = Links {
     parent: None,
 };
 
-// So many cards, and the links of each.
+// So many cards, and the links of each. An array and a count, no Vec: a table is read with no heap, and a wiring stays Copy.
 #[derive(Clone, Copy)]
 pub struct WiredTree {
     cards: u16,
