@@ -2,6 +2,8 @@
 ghost use Rattle.std.specs.Prelude.{◌≡◌};
 ghost use Rattle.licence.specs.Granted.{granted};
 ghost use Rattle.licence.specs.Rules.{rule_of, rule_in, rule_covers, rule_carries};
+ghost use Rattle.licence.specs.Ranges.{range_of};
+ghost use Rattle.licence.specs.Patterns.{pattern_of};
 ghost use Rattle.std.proofs.Common.{rules};
 
 use crate::rule::Rule;
@@ -25,7 +27,7 @@ pub type PatternRule = SetRule<CardSet, KeyPattern>;
 
 impl<C: Set<u16> + Drop, K: Set<u8> + Drop> SetRule<C, K> {
     // Refused are a set of which no rule may be made, and a class that there is not.
-    pub fn new(cards: C, keys: K, verdict: Verdict) -> Result<SetRule<C, K>, LicenceFault>
+    pub fn of(cards: C, keys: K, verdict: Verdict) -> Result<SetRule<C, K>, LicenceFault>
         ensures { granted rule_in result ≡ rule_of C.sound K.sound cards keys verdict }
     {
         if !cards.is_sound() || !keys.is_sound() || !verdict.is_known() {
@@ -36,6 +38,32 @@ impl<C: Set<u16> + Drop, K: Set<u8> + Drop> SetRule<C, K> {
             keys,
             carried: Carried { verdict },
         })
+    }
+}
+
+impl SetRule<Span<u16>, Span<u8>> {
+    // Refused are a span that runs backwards and a class that there is not.
+    pub fn new(
+        cards: Span<u16>,
+        keys: Span<u8>,
+        verdict: Verdict,
+    ) -> Result<RangeRule, LicenceFault>
+        ensures { granted rule_in result ≡ range_of cards keys verdict }
+    {
+        RangeRule::of(cards, keys, verdict)
+    }
+}
+
+impl SetRule<CardSet, KeyPattern> {
+    // Refused are a set with bit 31, a value with bits outside its care byte, and a class that there is not.
+    pub fn new(
+        cards: CardSet,
+        keys: KeyPattern,
+        verdict: Verdict,
+    ) -> Result<PatternRule, LicenceFault>
+        ensures { granted rule_in result ≡ pattern_of cards keys verdict }
+    {
+        PatternRule::of(cards, keys, verdict)
     }
 }
 

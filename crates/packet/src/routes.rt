@@ -26,7 +26,7 @@ impl Model for Route {
 }
 
 // The sides of a way down, at most seven: one bit for each, the first one highest. Bits and no Vec, since send uses no heap.
-// Clauses read them by sides_in, with no Model: a Copy type owes that its bits come back, and that proof is too long for specs.
+// Clauses read them by sides_in, with no Model: a Copy type owes an inverse, and the proof that its bits come back is longer than what it would save.
 #[derive(Clone, Copy)]
 pub struct Sides {
     bits: u16,

@@ -1,9 +1,7 @@
 // The two sides of a card.
-ghost use Rattle.std.specs.Prelude.{◌≡◌, ◌<◌, Some};
-ghost use Rattle.packet.specs.Words.{bit};
+ghost use Rattle.std.specs.Prelude.{◌≡◌, Some};
 ghost use Rattle.packet.specs.Routes.{side_of, side_letter};
 
-use crate::words::bit;
 use std::fmt;
 
 // A daughter is her parent's left or right one.
@@ -24,14 +22,11 @@ impl fmt::Display for Side {
     }
 }
 
-// The side that bit k of a number names: 0 left, 1 right.
-pub(crate) fn side_at(bits: u16, k: u16) -> Side
-    requires { k < 16 }
-    ensures { result ≡ side_of (bit k bits) }
-{
-    if bit(u32::from(k), u32::from(bits)) {
-        Side::Right
-    } else {
-        Side::Left
+// Of a bit, 0 is left and 1 is right.
+impl From<bool> for Side {
+    ghost from_gives = { λ bit side. side ≡ side_of bit };
+
+    fn from(bit: bool) -> Side {
+        if bit { Side::Right } else { Side::Left }
     }
 }

@@ -5,7 +5,7 @@ ghost use Rattle.refusal.specs.Numbers.{numbered, placed, refusal_text};
 use std::fmt;
 
 // A refusal as it is answered: its number, and its place where it has one. The number, not an enum, is the product's answer to the host.
-#[derive(Clone, Copy)]
+#[derive(Clone, Copy, PartialEq, Eq)]
 pub struct Refusal {
     pub number: u8,
     pub place: Option<usize>,

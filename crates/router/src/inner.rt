@@ -1,4 +1,5 @@
-// What the calls are made of: the checks, the plan of a fire, and its writes.
+// What the calls are made of: the checks, the plan of a fire, and its writes. Card, station and input stay three arguments, as in the
+// definitions that the clauses name.
 ghost use Rattle.std.specs.Prelude.{◌≡◌};
 ghost use Rattle.station.specs.Plans.{down_by, judged, downward, planned};
 ghost use Rattle.network.specs.Fires.{located, hold_at, passing};

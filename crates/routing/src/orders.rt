@@ -18,7 +18,6 @@ fn meet<W: Wiring>(wiring: &W, a: u16, b: u16) -> Option<u16>
 {
     let mut x = a;
     let mut y = b;
-    // The two go up in turn, so no iterator over the cards above one of them serves.
     while x != y {
         if x > y {
             x = wiring.parent(x)?.0;
@@ -57,7 +56,6 @@ fn sides_down<W: Wiring>(wiring: &W, top: u16, card: u16) -> Option<Sides>
 {
     let mut at = card;
     let mut sides = Sides::none();
-    // Each link's side is wanted, which the iterator over the cards does not give.
     while at != top {
         // A card below the top has a parent.
         let (parent, side) = wiring.parent(at)?;

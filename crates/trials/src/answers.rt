@@ -1,12 +1,14 @@
 // What the tests ask of an answer.
 use refusal::{Fault, Refusal};
 
-// The number and the place by which it is refused, or none where it is granted.
-pub(crate) fn refused<T: Drop, F: Fault + Drop>(
-    answer: Result<T, F>,
-) -> Option<(u8, Option<usize>)> {
-    let Refusal { number, place } = answer.err()?.into();
-    Some((number, place))
+// The refusal, or none where it is granted.
+pub(crate) fn refused<T: Drop, F: Fault + Drop>(answer: Result<T, F>) -> Option<Refusal> {
+    Some(answer.err()?.into())
+}
+
+// A refusal of this number, at this place if it has one.
+pub(crate) fn by(number: u8, place: Option<usize>) -> Refusal {
+    Refusal { number, place }
 }
 
 // The number alone.

@@ -1,9 +1,8 @@
 // Rules, books and layers.
 ghost use Rattle.std.specs.Prelude.{◌≡◌};
-ghost use Rattle.licence.specs.Granted.{granted};
 ghost use Rattle.licence.specs.Rules.{rule_in};
-ghost use Rattle.licence.specs.Ranges.{range_of, in_range};
-ghost use Rattle.licence.specs.Patterns.{pattern_of, in_pattern};
+ghost use Rattle.licence.specs.Ranges.{in_range};
+ghost use Rattle.licence.specs.Patterns.{in_pattern};
 
 use crate::answers::number_of;
 use licence::{Book, KeyPattern, PatternRule, Policy, RangeRule, Rule, Span, Verdict, Withdrawal};
@@ -17,9 +16,13 @@ fn answers<P: Policy>(policy: &P, cases: &[(u16, u8, Verdict)]) -> bool {
         .all(|(card, key, verdict)| policy.ask(*card, *key) == *verdict)
 }
 
-fn range(low: u16, high: u16, from: u8, to: u8, verdict: Verdict) -> Result<RangeRule, LicenceFault>
-    ensures { granted rule_in result ≡ range_of (record { low = low; high = high }) (record { low = from; high = to }) verdict }
-{
+fn range(
+    low: u16,
+    high: u16,
+    from: u8,
+    to: u8,
+    verdict: Verdict,
+) -> Result<RangeRule, LicenceFault> {
     RangeRule::new(
         Span { low, high },
         Span {
@@ -30,12 +33,11 @@ fn range(low: u16, high: u16, from: u8, to: u8, verdict: Verdict) -> Result<Rang
     )
 }
 
-fn pattern(cards: u32, value: u8, care: u8, verdict: Verdict) -> Result<PatternRule, LicenceFault>
-    ensures { granted rule_in result ≡ pattern_of cards (record { value = value; care = care }) verdict }
-{
+fn pattern(cards: u32, value: u8, care: u8, verdict: Verdict) -> Result<PatternRule, LicenceFault> {
     PatternRule::new(cards, KeyPattern { value, care }, verdict)
 }
 
+// At the numbers of cards and keys a span's own order is that of the numbers.
 fn range_covers(rule: &RangeRule, card: u16, key: u8) -> bool
     ensures { result ≡ in_range (rule_in rule.now) card key }
 {

@@ -1,5 +1,5 @@
 // Worked examples of heads, packets and delivered words.
-use crate::answers::refused;
+use crate::answers::{by, refused};
 use packet::*;
 use std::test::Fail;
 
@@ -29,31 +29,18 @@ fn packets_checked(rt: HostRuntime) {
     let mut long = [0; 65];
     long[0] = 0x8000_0080;
     long[63] = 0x4000_0000;
-    assert_eq!(rt; refused(check(&long[0..1])), Some((6, None)));
-    assert_eq!(rt; refused(check(&long)), Some((6, None)));
-    assert_eq!(rt; refused(check(&long[0..64])), None);
-    assert_eq!(rt; refused(check(&[0x8000_0080, 0x4000_0011])), None);
-    assert_eq!(rt;
-        refused(check(&[0x8000_0080, 0, 0xc000_0000, 0x4000_0000])),
-        Some((7, Some(2)))
+    assert!(rt; refused(check(&long[0..1])) == Some(by(6, None)));
+    assert!(rt; refused(check(&long)) == Some(by(6, None)));
+    assert!(rt; refused(check(&long[0..64])).is_none());
+    assert!(rt; refused(check(&[0x8000_0080, 0x4000_0011])).is_none());
+    assert!(rt;
+        refused(check(&[0x8000_0080, 0, 0xc000_0000, 0x4000_0000])) == Some(by(7, Some(2)))
     );
-    assert_eq!(rt;
-        refused(check(&[0x8000_0080, 0x4000_0000, 0x4000_0000])),
-        Some((7, Some(1)))
-    );
-    assert_eq!(rt;
-        refused(check(&[0x8000_0280, 0x4000_0011])),
-        Some((8, Some(0)))
-    );
-    assert_eq!(rt;
-        refused(check(&[0x8000_0080, 0x4000_0111])),
-        Some((8, Some(1)))
-    );
+    assert!(rt; refused(check(&[0x8000_0080, 0x4000_0000, 0x4000_0000])) == Some(by(7, Some(1))));
+    assert!(rt; refused(check(&[0x8000_0280, 0x4000_0011])) == Some(by(8, Some(0))));
+    assert!(rt; refused(check(&[0x8000_0080, 0x4000_0111])) == Some(by(8, Some(1))));
     // a body at the end, though the head has a reserved bit set
-    assert_eq!(rt;
-        refused(check(&[0x8000_0280, 0, 0, 0, 0, 0])),
-        Some((7, Some(5)))
-    );
+    assert!(rt; refused(check(&[0x8000_0280, 0, 0, 0, 0, 0])) == Some(by(7, Some(5))));
 }
 
 // The next packet, as key, class and place.
@@ -81,10 +68,10 @@ fn delivered_faults(rt: HostRuntime) {
     let mut reader = Delivered::new(&words);
     assert_eq!(rt; packet(&mut reader), Some((0x11, 0, 0)));
     // the head at place 2 comes before the key word's reserved bit at place 1
-    assert_eq!(rt; refused(reader.next()), Some((7, Some(2))));
-    assert_eq!(rt; refused(reader.next()), Some((7, Some(2))));
+    assert!(rt; refused(reader.next()) == Some(by(7, Some(2))));
+    assert!(rt; refused(reader.next()) == Some(by(7, Some(2))));
     assert_eq!(rt; reader.place(), 1);
     let words = [0x4000_0100];
     let mut reader = Delivered::new(&words);
-    assert_eq!(rt; refused(reader.next()), Some((8, Some(0))));
+    assert!(rt; refused(reader.next()) == Some(by(8, Some(0))));
 }

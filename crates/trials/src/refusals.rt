@@ -1,4 +1,5 @@
 // Faults as they are answered.
+use crate::answers::by;
 use refusal::*;
 use std::test::Fail;
 
@@ -19,15 +20,9 @@ fn answer() -> Result<u16, Refusal> {
 #[test]
 fn numbers_and_places(rt: HostRuntime) {
     let route = RouteFault::NoDaughter { card: 3 };
-    let Refusal { number, place } = PacketFault::Route(route).refusal();
-    assert_eq!(rt; number, 11);
-    assert_eq!(rt; place, Some(3));
-    let Refusal { number, place } = PacketFault::Kinds { place: 5 }.refusal();
-    assert_eq!(rt; number, 7);
-    assert_eq!(rt; place, Some(5));
-    let Refusal { number, place } = OrderFault::Unknown.refusal();
-    assert_eq!(rt; number, 5);
-    assert_eq!(rt; place, None);
+    assert!(rt; PacketFault::Route(route).refusal() == by(11, Some(3)));
+    assert!(rt; PacketFault::Kinds { place: 5 }.refusal() == by(7, Some(5)));
+    assert!(rt; OrderFault::Unknown.refusal() == by(5, None));
 }
 
 #[test]
@@ -41,17 +36,15 @@ fn route_fault_becomes_packet_fault(rt: HostRuntime) -> Result<(), Fail> {
             PacketFault::Route(RouteFault::EndsGoingUp { card: 5 })
         )
     );
-    assert_eq!(rt; fault.refusal().number, 9);
-    assert_eq!(rt; fault.refusal().place, Some(5));
+    assert!(rt; fault.refusal() == by(9, Some(5)));
     Ok(())
 }
 
 #[test]
 fn route_fault_becomes_refusal(rt: HostRuntime) -> Result<(), Fail> {
-    let Err(Refusal { number, place }) = answer() else {
+    let Err(refusal) = answer() else {
         return Err(Fail::new("answered"));
     };
-    assert_eq!(rt; number, 9);
-    assert_eq!(rt; place, Some(5));
+    assert!(rt; refusal == by(9, Some(5)));
     Ok(())
 }

@@ -1,5 +1,5 @@
 // Worked examples of full trees, route orders and walks.
-use crate::answers::number_of;
+use crate::answers::{by, number_of};
 use packet::{Mode, Route, Side};
 use refusal::{Fault, Refusal};
 use routing::*;
@@ -30,10 +30,9 @@ fn full_trees(rt: HostRuntime) -> Result<(), Fail> {
 
 // The head of an order as a word, or the number of its refusal.
 fn ordered(tree: &FullTree, sender: u16, cards: &[u16]) -> Result<u32, u8> {
-    match order(tree, sender, cards) {
-        Ok(head) => Ok(u32::from(head)),
-        Err(fault) => Err(fault.refusal().number),
-    }
+    order(tree, sender, cards)
+        .map(u32::from)
+        .map_err(|fault| fault.refusal().number)
 }
 
 #[test]
@@ -52,29 +51,21 @@ fn orders_made_and_refused(rt: HostRuntime) -> Result<(), Fail> {
     Ok(())
 }
 
-// The turn, the terminus and the hops of four flooding words, or the refusal's number and place.
-fn walked(tree: &FullTree, card: u16, route: u32) -> Result<(u16, u16, u64), (u8, Option<usize>)> {
-    match walk_route(tree, card, Route::low(route)) {
-        Ok(walk) => Ok((
-            walk.turn,
-            walk.terminus,
-            path_hops(tree, Mode::Flood, &walk, 4),
-        )),
-        Err(fault) => {
-            let Refusal { number, place } = fault.into();
-            Err((number, place))
-        }
-    }
+// The turn, the terminus and the hops of four flooding words, or the refusal.
+fn walked(tree: &FullTree, card: u16, route: u32) -> Result<(u16, u16, u64), Refusal> {
+    let walk = walk_route(tree, card, Route::low(route))?;
+    let hops = path_hops(tree, Mode::Flood, &walk, 4);
+    Ok((walk.turn, walk.terminus, hops))
 }
 
 #[test]
 fn routes_walked(rt: HostRuntime) -> Result<(), Fail> {
     let tree = full(3)?;
-    assert_eq!(rt; walked(&tree, 3, 0x1b0), Ok((0, 2, 28)));
-    assert_eq!(rt; walked(&tree, 3, 0x180), Err((9, Some(3))));
-    assert_eq!(rt; walked(&tree, 0, 0x1a0), Err((10, Some(0))));
-    assert_eq!(rt; walked(&tree, 3, 0x040), Err((11, Some(3))));
+    assert!(rt; walked(&tree, 3, 0x1b0) == Ok((0, 2, 28)));
+    assert!(rt; walked(&tree, 3, 0x180) == Err(by(9, Some(3))));
+    assert!(rt; walked(&tree, 0, 0x1a0) == Err(by(10, Some(0))));
+    assert!(rt; walked(&tree, 3, 0x040) == Err(by(11, Some(3))));
     // one down from card 1, and the second descent is missing at card 4
-    assert_eq!(rt; walked(&tree, 1, 0x0e0), Err((11, Some(4))));
+    assert!(rt; walked(&tree, 1, 0x0e0) == Err(by(11, Some(4))));
     Ok(())
 }

@@ -4,7 +4,8 @@ ghost use Rattle.packet.specs.Routes.{write_route, read_route};
 ghost use Rattle.packet.specs.Courses.{sides_in, sides_told, sides_before, split_sides, split_told, course_of};
 
 use super::{Course, Route, Sides};
-use crate::sides::{Side, side_at};
+use crate::sides::Side;
+use crate::words::bit;
 
 impl Sides {
     // No descent at all.
@@ -36,7 +37,8 @@ impl Sides {
             bits: self.bits % (1 << count),
             count,
         };
-        Some((side_at(self.bits, count), rest))
+        let first = bit(u32::from(count), u32::from(self.bits));
+        Some((Side::from(first), rest))
     }
 
     // These sides after another one, or none where a route has no bit for it.

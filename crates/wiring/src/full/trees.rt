@@ -48,11 +48,6 @@ impl Wiring for FullTree {
         if card == 0 || card >= self.cards {
             return None;
         }
-        let side = if card % 2 == 0 {
-            Side::Right
-        } else {
-            Side::Left
-        };
-        Some(((card - 1) / 2, side))
+        Some(((card - 1) / 2, Side::from(card % 2 == 0)))
     }
 }
