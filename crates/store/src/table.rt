@@ -1,4 +1,4 @@
-// The cards of a tree. A method that writes borrows its card itself: one that lends it out could not promise that the others stay.
+// The cards of a tree. A method that writes borrows its card itself: one that lends out an element of an array gets no proof of its clause.
 ghost use Rattle.std.specs.Prelude.{◌≡◌, ℕ, ◌+◌, ◌<◌, ◌≤◌, ◌++◌, false, length, Some, Ok};
 ghost use Rattle.station.specs.Holds.{merge};
 ghost use Rattle.network.specs.Cards.{empty, card_at, on_card, with_queue, with_inbox, oldest, younger};
