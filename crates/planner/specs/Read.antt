@@ -1,14 +1,8 @@
 -- What is read of a line's fields.
-use Rattle.std.specs.Prelude.{◌≡◌, ℕ, List, Some, None, ◌⊎◌, MatchResult, vec_items, Option, Result, Vec}
-use Rattle.std.specs.Borrow.{Bor}
-use Rattle.std.specs.Fn.{FnReturnsAt, Shared}
+use Rattle.std.specs.Prelude.{◌≡◌, List, Some, None, ◌⊎◌, MatchResult, vec_items, Option, Result, Vec}
 use Rattle.std.specs.declared.alloc.Global.{Global}
 use Rattle.planner.specs.declared.faults.PlanFault.{PlanFault}
 use Rattle.planner.specs.declared.faults.PlanFault.TheVariants.{NotUnderstood, Memory}
-
--- a reader gives what f says of a field
-abbrev pub Computes : {F X : Type 0} → Shared F (Bor (List ℕ) × Unit {0}) (Option X) → F → (List ℕ → Option X) → Type 0
-Computes {X = X} g read f = (field : List ℕ) (r : Option X) → FnReturnsAt g read field r → r ≡ f field
 
 -- the answer to a list of fields: what they say, or 21 where they say nothing; want of memory may stand in place of either
 abbrev pub AllRead : {X : Type 0} → Option (List X) → Result (Vec X Global) PlanFault → Type 0

@@ -6,10 +6,10 @@ ghost use Rattle.planner.specs.Lines.{entry_of, read_all, tree_of, tabled, frame
 ghost use Rattle.std.proofs.Common.{rules};
 
 use crate::faults::PlanFault;
-use crate::reading::{entry, read_all};
+use crate::reading::{Entry, read_all};
 use packet::Side;
 use std::alloc::Global;
-use text::{Fields, decimal};
+use text::{Decimal, Fields};
 use wiring::{FullTree, WiredTree, Wiring};
 
 // A wiring of either kind. An enum, since a function may not hand out a `dyn Wiring` that it made.
@@ -50,7 +50,7 @@ impl Wiring for Cabinet {
 fn full_tree(mut fields: Fields) -> Result<Cabinet, PlanFault>
     ensures { FrameAnswered (tree_of (fields_left fields.entry)) (cabinet_told result) }
 {
-    let levels = fields.read(decimal).ok_or(PlanFault::NotUnderstood)?;
+    let levels = fields.read::<Decimal>().ok_or(PlanFault::NotUnderstood)?;
     if !fields.is_done() {
         return Err(PlanFault::NotUnderstood);
     }
@@ -61,7 +61,7 @@ fn full_tree(mut fields: Fields) -> Result<Cabinet, PlanFault>
 fn wired_tree(heap: Global, fields: Fields) -> Result<Cabinet, PlanFault>
     ensures { FrameAnswered (tabled (read_all entry_of (fields_left fields.entry))) (cabinet_told result) }
 {
-    let table = read_all(heap, fields, entry)?;
+    let table = read_all::<Entry>(heap, fields)?;
     Ok(Cabinet::Wired(WiredTree::new(&table)?))
 }
 

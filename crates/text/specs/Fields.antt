@@ -1,7 +1,6 @@
 -- The fields of a line. A line and a field are lists of bytes, and a space is the byte 32.
-use Rattle.std.specs.Prelude.{◌≡◌, ℕ, Bool, true, false, List, [], ◌∷◌, Some, None, Option, ◌==◌}
+use Rattle.std.specs.Prelude.{ℕ, Bool, true, false, List, [], ◌∷◌, Some, None, Option, ◌==◌}
 use Rattle.std.specs.Borrow.{Bor}
-use Rattle.std.specs.Fn.{FnOnceReturnsAt, Once}
 use Rattle.std.specs.List.{slice_split}
 use Rattle.text.specs.declared.fields.Fields.{Fields}
 
@@ -29,7 +28,7 @@ abbrev pub none_left : List (List ℕ) → Bool
 none_left [] = true
 none_left (f ∷ fs) = false
 
--- what the call of a reader at the first field gave, or none where there is no field
-abbrev pub ReadsFirst : {F X : Type 0} → Once F (Bor (List ℕ) × Unit {0}) (Option X) → F → List (List ℕ) → Option X → Type 0
-ReadsFirst g read [] r = r ≡ None
-ReadsFirst g read (f ∷ fs) r = FnOnceReturnsAt g read f r
+-- what `read` makes of the first field, or none where there is no field
+abbrev pub read_first : {X : Type 0} → (List ℕ → Option X) → List (List ℕ) → Option X
+read_first read [] = None
+read_first read (f ∷ fs) = read f

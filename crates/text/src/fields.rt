@@ -1,8 +1,10 @@
 // The fields of a line, cut off one by one from the left.
 ghost use Rattle.std.specs.Prelude.{◌≡◌, ◌∷◌, ℕ, List};
 ghost use Rattle.std.specs.Iterator.{YieldsFirstRef, item_count};
-ghost use Rattle.text.specs.Fields.{fields_of, fields_in, fields_left, rest_of, none_left, ReadsFirst};
+ghost use Rattle.text.specs.Fields.{fields_of, fields_in, fields_left, rest_of, read_first, none_left};
 ghost use Rattle.text.specs.Parted.{Parted};
+
+use crate::spelling::Spelling;
 
 // What is left of a line: the text from the next field on, or nothing once the last field is cut off.
 #[derive(Clone, Copy)]
@@ -53,11 +55,10 @@ impl<'a> Fields<'a> {
     }
 
     // Cuts off the next field, and reads it.
-    pub fn read<T, F: FnOnce(&[u8]) -> Option<T>>(&mut self, read: F) -> Option<T>
-        requires { F.IsAlwaysCallable read }
-        ensures value { ReadsFirst F.FnOnce read (fields_left self.old) result }
+    pub fn read<S: Spelling>(&mut self) -> Option<S::Value>
+        ensures value { result ≡ read_first S.spells (fields_left self.old) }
         ensures rest { fields_left self.new ≡ rest_of (fields_left self.old) }
     {
-        read(self.next()?)
+        S::read(self.next()?)
     }
 }

@@ -4,9 +4,9 @@ use text::*;
 #[test]
 fn cuts_at_each_space(rt: HostRuntime) {
     let mut fields = Fields::new(b"7  fF ");
-    assert!(rt; fields.read(decimal) == Some(7));
-    assert!(rt; fields.read(decimal) == None);
-    assert!(rt; fields.read(hex_byte) == Some(255));
+    assert!(rt; fields.read::<Decimal>() == Some(7));
+    assert!(rt; fields.read::<Decimal>() == None);
+    assert!(rt; fields.read::<HexByte>() == Some(255));
     assert!(rt; !fields.is_done(), "an empty field follows the last space");
 }
 
