@@ -21,10 +21,7 @@ pub fn plan_order<W: Wiring>(wiring: &W, sender: u16, cards: &[u16]) -> Result<P
     ensures { Planned (W.shape wiring.now) sender cards.now result }
 {
     let head = order(wiring, sender, cards)?;
-    let walk = match walk_route(wiring, sender, head.route) {
-        Ok(walk) => walk,
-        Err(_) => unreachable(),
-    };
+    let walk = walk_route(wiring, sender, head.route).unwrap();
     let reached = cards_reached(wiring, head.mode, walk.terminus);
     let hops = hops_a_word(wiring, head.mode, &walk);
     Ok(Plan {
