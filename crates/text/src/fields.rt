@@ -13,6 +13,7 @@ pub struct Fields<'a> {
 }
 
 // The first field of a text, and the text after the space that ends it, if one does.
+// Not std's slice `split`: a `Fields` is `Copy` and tells whether it is done, and no field could name the type of `split`'s closure.
 fn cut(text: &[u8]) -> (&[u8], Option<&[u8]>)
     ensures { fields_of text.now ≡ result.0.now ∷ fields_in result.1 }
 {

@@ -16,7 +16,7 @@ fn digits(base: u32, field: &[u8]) -> Option<u32>
     Some(n)
 }
 
-// The same, of `least` to `most` digits only. Parameters and no const ones, which could not carry the `requires`.
+// The same, of `least` to `most` digits only.
 fn number(base: u32, least: usize, most: usize, field: &[u8]) -> Option<u32>
     requires { (2 ≤ base) × ((base ≤ 16) × (most ≤ 8)) }
     ensures value { result ≡ number_of base least most field.now }
