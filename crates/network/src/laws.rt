@@ -1,4 +1,6 @@
 // The three laws of the tree, for every lawful wiring, every policy and every list of calls.
+#![tactic(auto, using(crate::proofs::AllLaws::three_laws, crate::proofs::AllLaws::every_call))]
+
 ghost use Rattle.network.specs.Laws.{HopsLaw, ProgressLaw, DeliveryLaw, ThreeLaws, EveryCall};
 
 // Hops owed are the path hops of all packets ever queued, less one for each granted fire.
