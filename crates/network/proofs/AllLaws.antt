@@ -1,5 +1,6 @@
 -- The three laws, for every run of the machine.
-use Rattle.std.proofs.Common.{◌≡◌, ℕ, zero, suc, ◌+◌, ◌*◌, ◌<◌, Bool, true, false, cond, not, ◌&&◌, eqb, List, [], ◌∷◌, ◌++◌, length, Some, None, Ok, Option, Result, sym, refl, ap, ◌∙◌, ap₂, arith}
+use Rattle.std.proofs.Common.{◌≡◌, ℕ, zero, suc, ◌+◌, ◌*◌, ◌<◌, Bool, true, false, cond, not, ◌&&◌, eqb, List, [], ◌∷◌, ◌++◌, length, Some, None, Ok, Option, Result, sym, refl, ap, ◌∙◌, ap₂, arith, eq-eqb, ne_eqb}
+use Rattle.std.proofs.lemmas.Bool.{and_parts}
 use native.Mathlib.Decide.{ℕ_discrete}
 use Rattle.refusal.specs.declared.send.RouteFault.{RouteFault}
 use Rattle.packet.proofs.Moving.{stamp_tail}
@@ -21,7 +22,7 @@ use Rattle.network.specs.Laws.{Delivery, EveryCall, Hops, Laws, ThreeLaws, words
 use Rattle.network.specs.Owed.{hops_owed}
 use Rattle.network.specs.Runs.{Call, Run, fire, next, onward, owed, run, run_from, send, start, take}
 use Rattle.network.specs.Sums.{count, same_words, sum_over}
-use Rattle.network.proofs.Basics.{and_left, and_right, sum_to_same}
+use Rattle.network.proofs.Basics.{sum_to_same}
 use Rattle.network.proofs.Channels.{Rooted, rooted}
 use Rattle.network.proofs.Exact.{SentFrom, exact_law, path_law, run_sent}
 use Rattle.network.proofs.Flow.{load}
@@ -35,7 +36,7 @@ use Rattle.network.proofs.Ready.{goes_on}
 use Rattle.network.proofs.Trip.{reached, subtree, trip_hops, trip_hops_by, way}
 use Rattle.network.proofs.Sendings.{Reads, reads-trip}
 use Rattle.network.proofs.Simulate.{History-of, follows}
-use Rattle.network.proofs.SubtreeSums.{count-sum, eqb_no, eqb_yes, subtree-sum, sum_to_point}
+use Rattle.network.proofs.SubtreeSums.{count-sum, subtree-sum, sum_to_point}
 use Rattle.network.proofs.TripsRead.{downward_way}
 use Rattle.network.proofs.Outputs.{all_map, sum_over_same}
 
@@ -95,8 +96,8 @@ module _ (W : Shape) (L : Rooted W) where
         flip : (e : ℕ) → cond (covers W r.terminus e) (cond (eqb e d) v 0) 0 ≡ cond (eqb d e) (cond (covers W r.terminus e) v 0) 0
         flip e =
             elim (ℕ_discrete e d) [
-              | yes p ↦ rw (eqb_yes e d p, eqb_yes d e (sym p))
-              | no n ↦ rw (eqb_no e d n, eqb_no d e (λ p. n (sym p))) (zero_either (covers W r.terminus e))
+              | yes p ↦ rw (eq-eqb e d p, eq-eqb d e (sym p))
+              | no n ↦ rw (ne_eqb e d n, ne_eqb d e (λ p. n (sym p))) (zero_either (covers W r.terminus e))
             ]
           where
             zero_either : (b : Bool) → cond {A = ℕ} b 0 0 ≡ 0
@@ -113,8 +114,8 @@ module _ (W : Shape) (L : Rooted W) where
 -- the words after the head of a packet end in a tail, and so do the marked ones
 ends_last : (w : ℕ) (ws : List ℕ) → ends (w ∷ ws) ≡ true → last_tail (w ∷ ws) ≡ true
 unfolding ends last_tail
-ends_last w [] e = and_left _ _ e
-ends_last w (v ∷ ws) e = ends_last v ws (and_right (not (is_tail_word w) && not (is_head_word w)) _ e)
+ends_last w [] e = (and_parts _ _ e).0
+ends_last w (v ∷ ws) e = ends_last v ws (and_parts (not (is_tail_word w) && not (is_head_word w)) _ e).1
 
 marked_last : (k v : ℕ) (ws : List ℕ) → ends (k ∷ ws) ≡ true → last_tail (mark k (Class v) ++ ws) ≡ true
 unfolding mark last_tail
@@ -142,10 +143,10 @@ module _ (W : Shape) (L : Rooted W) (P : Verdicts) where
   brought_is : (d : ℕ) → d < W.cards → (l : List ℕ) (m : Parcel) → SentFrom W L m → brought W P d l m ≡ cond (arrives_as W P d l m) 1 0
   unfolding is_packet ends brought brought_by way arrives_as
   brought_is d hd l (c, []) s = absurd (let z = s.packet in grind arith)
-  brought_is d hd l (c, h ∷ []) s = absurd (let z = and_right (is_head_word h && not (is_tail_word h)) _ s.packet in grind arith)
+  brought_is d hd l (c, h ∷ []) s = absurd (let z = (and_parts (is_head_word h && not (is_tail_word h)) _ s.packet).1 in grind arith)
   brought_is d hd l (c, h ∷ k ∷ ws) s =
       let r = s.route h (k ∷ ws) refl in
-      let e = and_right (is_head_word h && not (is_tail_word h)) _ s.packet in
+      let e = (and_parts (is_head_word h && not (is_tail_word h)) _ s.packet).1 in
       ap (brought_by W P d l (h ∷ k ∷ ws)) (reads-trip W L c h s.known r)
       ∙ reach_is W L c h s.known r d (whole_as l (as_arrived P d h (k ∷ ws))) hd
       ∙ ap (λ (n : ℕ). cond (reaches W c h d) n 0) (whole_is P d h k ws l e)

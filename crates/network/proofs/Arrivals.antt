@@ -1,5 +1,6 @@
 -- A packet arrives once at each card that it reaches and that accepts it.
 use Rattle.std.proofs.Common.{◌≡◌, ℕ, ◌*◌, ◌<◌, Bool, true, false, cond, not, ◌&&◌, List, [], ◌∷◌, ◌++◌, Some, refl, ap, ◌∙◌, ap₂, inl, inr, append_assoc, append-nil, arith}
+use Rattle.std.proofs.lemmas.Bool.{and_parts, not-true}
 use mathlib.Core.Logic.{if_neg, if_pos, ite}
 use Rattle.packet.specs.Heads.{floods}
 use Rattle.packet.specs.Routes.{stops}
@@ -8,7 +9,6 @@ use Rattle.wiring.specs.Shapes.{Shape}
 use Rattle.station.specs.Plans.{Verdicts, accepted}
 use Rattle.network.specs.Nodes.{Node, card_of, down, up}
 use Rattle.network.specs.Sums.{sum_over}
-use Rattle.network.proofs.Basics.{and_left, and_right, not_true}
 use Rattle.network.proofs.Channels.{Rooted, node_discrete}
 use Rattle.network.proofs.Delivery.{Brings, arrival-append, delivered, none_before, whole_as_nil}
 use Rattle.network.proofs.History.{arrival, arrives, ends, hops, is_packet, last_tail, whole_as}
@@ -71,9 +71,9 @@ unfolding along ends
 along_last g h e q [] p = absurd (grind arith)
 along_last g h e q (w ∷ []) p = omega arith
 along_last g h e q (w ∷ x ∷ ws) p =
-    let s = and_left (not (is_tail_word w) && not (is_head_word w)) (ends (x ∷ ws)) p in
-    let t : is_tail_word w ≡ false = not_true (is_tail_word w) (and_left _ (not (is_head_word w)) s) in
-    let r = along_last g h e (q ++ (w ∷ [])) (x ∷ ws) (and_right (not (is_tail_word w) && not (is_head_word w)) _ p) in
+    let s = (and_parts (not (is_tail_word w) && not (is_head_word w)) (ends (x ∷ ws)) p).0 in
+    let t : is_tail_word w ≡ false = not-true (is_tail_word w) (and_parts _ (not (is_head_word w)) s).0 in
+    let r = along_last g h e (q ++ (w ∷ [])) (x ∷ ws) (and_parts (not (is_tail_word w) && not (is_head_word w)) _ p).1 in
     let a = e q w t in
     let b : g (h ∷ (q ++ (w ∷ []) ++ (x ∷ ws))) ≡ g (h ∷ (q ++ (w ∷ x ∷ ws))) = simp append_assoc in
     rw (next_not (h ∷ q) w t) (omega arith)
@@ -118,9 +118,9 @@ module _ (W : Shape) (L : Rooted W) (P : Verdicts) (d : ℕ) (l : List ℕ) wher
         hops (arrives P d l) W (c, h ∷ ws) ≡ sum_over (reached W h t) (λ e. arrives P d l (down e) (stop_head h ∷ ws))
     unfolding hops waiting along is_packet reached
     arrivals ws hp =
-        let s = and_left (is_head_word h && not (is_tail_word h)) (ends ws) hp in
-        let nt : is_tail_word h ≡ false = not_true (is_tail_word h) (and_right (is_head_word h) _ s) in
-        let r = along_last (weight (arrives P d l) W (2 * W.cards) (up c)) h zero_at [] ws (and_right (is_head_word h && not (is_tail_word h)) _ hp) in
+        let s = (and_parts (is_head_word h && not (is_tail_word h)) (ends ws) hp).0 in
+        let nt : is_tail_word h ≡ false = not-true (is_tail_word h) (and_parts (is_head_word h) _ s).1 in
+        let r = along_last (weight (arrives P d l) W (2 * W.cards) (up c)) h zero_at [] ws (and_parts (is_head_word h && not (is_tail_word h)) _ hp).1 in
         let z = zero_head in
         let u : sum_over (reached W (stop_head h) t) (λ e. arrives P d l (down e) (stop_head h ∷ ws)) ≡ sum_over (reached W h t) (λ e. arrives P d l (down e) (stop_head h ∷ ws)) =
         ap (λ (b : Bool). sum_over (cond b (subtree W W.cards t) (t ∷ [])) (λ e. arrives P d l (down e) (stop_head h ∷ ws))) (stop_flood h) in

@@ -1,5 +1,6 @@
 -- A function changed at one place, and sums.
-use Rattle.std.proofs.Common.{◌≡◌, ℕ, zero, suc, ◌+◌, ◌<◌, ◌≤◌, Bool, true, false, not, ◌&&◌, T, ◌≢◌, List, [], ◌∷◌, ◌++◌, sym, refl, ap, ◌∙◌, not-suc-le-zero, arith}
+use Rattle.std.proofs.Common.{◌≡◌, ℕ, zero, suc, ◌+◌, ◌<◌, ◌≤◌, true, ◌≢◌, List, [], ◌∷◌, ◌++◌, sym, refl, ap, ◌∙◌, not-suc-le-zero, arith}
+use Rattle.std.proofs.lemmas.Bool.{and_parts, and_from}
 use mathlib.Core.Logic.{if_neg, if_pos}
 use native.Mathlib.Decide.{dec_lt, ℕ_discrete}
 use Rattle.wiring.specs.Shapes.{Shape}
@@ -52,17 +53,6 @@ unfolding rest along
 along-append g q [] vs = omega arith
 along-append g q (v ∷ ws) vs = let e = along-append g (next q v) ws vs in omega arith
 
-pub and_left : (a b : Bool) → a && b ≡ true → a ≡ true
-and_left true b e = refl
-and_left false b e = e
-
-pub and_right : (a b : Bool) → a && b ≡ true → b ≡ true
-and_right true b e = e
-and_right false b e = absurd (grind arith)
-
-pub and_both : {a b : Bool} → a ≡ true → b ≡ true → a && b ≡ true
-and_both e f = rw (e, f)
-
 pub along_push : (g : List ℕ → ℕ) (q ws : List ℕ) (w : ℕ) → along g q (ws ++ (w ∷ [])) ≡ along g q ws + g (rest q ws ++ (w ∷ []))
 unfolding along
 along_push g q ws w = along-append g q ws (w ∷ []) ∙ omega arith
@@ -109,7 +99,7 @@ sum_channels-at n (DownLink c) f g h e =
 pub shape-append : (q ws vs : List ℕ) → shape q ws ≡ true → shape (rest q ws) vs ≡ true → shape q (ws ++ vs) ≡ true
 unfolding rest shape
 shape-append q [] vs a b = b
-shape-append q (w ∷ ws) vs a b = and_both (and_left _ _ a) (shape-append (next q w) ws vs (and_right (fits q w) _ a) b)
+shape-append q (w ∷ ws) vs a b = and_from _ _ (and_parts _ _ a).0 (shape-append (next q w) ws vs (and_parts (fits q w) _ a).1 b)
 
 sum_to_none : (n : ℕ) (f : ℕ → ℕ) → ((j : ℕ) → f j ≡ 0) → sum_to n f ≡ 0
 unfolding sum_to
@@ -161,15 +151,3 @@ sum_some n f h = pick (sum_to_some n (λ c. f (Queued c) + f (UpLink c) + f (Tur
                 | no nb ↦ elim (dec_lt 0 (f (TurnLink c))) [ yes d ↦ (TurnLink c, d) | no nd ↦ (DownLink c, omega arith) ]
               ]
         ]
-
-pub as_true : (b : Bool) → b ≡ true → T b
-as_true true e = tt
-as_true false e = absurd (grind arith)
-
-pub as_eq : (b : Bool) → T b → b ≡ true
-as_eq true e = refl
-as_eq false e = absurd e
-
-pub not_true : (b : Bool) → not b ≡ true → b ≡ false
-not_true true e = sym e
-not_true false e = refl

@@ -1,9 +1,9 @@
 -- Words in which every packet is ended are a list of whole arrivals.
 use Rattle.std.proofs.Common.{◌≡◌, ℕ, ◌+◌, Bool, true, false, cond, not, ◌&&◌, List, [], ◌∷◌, ◌++◌, sym, refl, ap, ◌∙◌, append_assoc, append-nil, arith}
+use Rattle.std.proofs.lemmas.Bool.{and_from}
 use Rattle.packet.specs.Packets.{is_tail_word}
 use Rattle.network.specs.Arrivals.{all_whole, is_whole}
 use Rattle.network.specs.Sums.{count, joined, same_words, sum_over}
-use Rattle.network.proofs.Basics.{and_both}
 use Rattle.network.proofs.History.{last_tail, whole_as}
 use Rattle.network.proofs.UnderWay.{along, next, rest}
 use Rattle.network.proofs.HistoryLaws.{next_end, next_not}
@@ -58,7 +58,7 @@ whole_all (w ∷ ws) q n = ways (is_tail_word w) refl (λ q n. whole_all ws q n)
   where
     ways : (b : Bool) → is_tail_word w ≡ b → ((q : List ℕ) → no_tail q ≡ true → all_whole (parcels q ws) ≡ true) →
         all_whole (cond b ((q ++ (w ∷ [])) ∷ parcels [] ws) (parcels (q ++ (w ∷ [])) ws)) ≡ true
-    ways true t rec = and_both (ends-one q w n t) (rec [] refl)
+    ways true t rec = and_from _ _ (ends-one q w n t) (rec [] refl)
     ways false t rec = rec (q ++ (w ∷ [])) (no_more q w n t)
 
 last_tail_lem : (q : List ℕ) (w : ℕ) → last_tail (q ++ (w ∷ [])) ≡ is_tail_word w

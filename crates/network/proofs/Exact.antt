@@ -1,5 +1,5 @@
 -- The hops and the deliveries of a history, in the terms of routes.
-use Rattle.std.proofs.Common.{◌≡◌, ℕ, ◌*◌, Bool, true, false, cond, ◌&&◌, T, eqb, ltb, ◌≢◌, List, [], ◌∷◌, ◌++◌, Some, None, sym, refl, ap, ◌∙◌, arith, eqb→eq}
+use Rattle.std.proofs.Common.{◌≡◌, ℕ, ◌*◌, Bool, true, false, cond, ◌&&◌, T, eqb, ltb, ◌≢◌, List, [], ◌∷◌, ◌++◌, Some, None, sym, refl, ap, ◌∙◌, arith, eqb-true}
 use lib.Dec.{eqb_refl}
 use mathlib.Core.Logic.{if_neg, if_pos}
 use Rattle.packet.specs.Heads.{floods}
@@ -10,7 +10,6 @@ use Rattle.licence.specs.declared.verdict.Verdict.TheVariants.{Class, Refuse}
 use Rattle.station.specs.Plans.{Verdicts, accepted}
 use Rattle.network.specs.Nodes.{down, number, up}
 use Rattle.network.proofs.Arrivals.{arrivals}
-use Rattle.network.proofs.Basics.{as_true}
 use Rattle.network.proofs.Channels.{Rooted, node_discrete}
 use Rattle.network.proofs.Delivery.{delivery_law, later_none}
 use Rattle.network.proofs.Flow.{refusal}
@@ -104,7 +103,7 @@ at_card P d e h l ws =
     other n v = test (eqb e d) refl
       where
         test : (b : Bool) → eqb e d ≡ b → cond b v 0 ≡ 0
-        test true q = absurd (n (eqb→eq e d (as_true (eqb e d) q)))
+        test true q = absurd (n (eqb-true e d q))
         test false q = refl
 
 brings : (W : Shape) (L : Rooted W) (P : Verdicts) (d : ℕ) (l : List ℕ) (m : ℕ × List ℕ) → SentFrom W L m → hops (arrives P d l) W m ≡ brought W P d l m

@@ -1,5 +1,6 @@
 -- What every history keeps: the invariant, the hops, progress.
-use Rattle.std.proofs.Common.{◌≡◌, ℕ, ◌+◌, ◌*◌, ◌<◌, Bool, true, false, cond, not, ◌&&◌, ltb, ◌≢◌, ◌⊎◌, List, [], ◌∷◌, ◌++◌, length, Some, None, Option, sym, refl, ap, ◌∙◌, inl, inr, arith, ltb→lt}
+use Rattle.std.proofs.Common.{◌≡◌, ℕ, ◌+◌, ◌*◌, ◌<◌, Bool, true, false, cond, not, ◌&&◌, ltb, ◌≢◌, ◌⊎◌, List, [], ◌∷◌, ◌++◌, length, Some, None, Option, sym, refl, ap, ◌∙◌, inl, inr, arith, ltb-true}
+use Rattle.std.proofs.lemmas.Bool.{and_parts, and_from, not-true}
 use mathlib.Core.Logic.{if_neg}
 use Rattle.refusal.specs.declared.drive.FireFault.{FireFault}
 use Rattle.refusal.specs.declared.drive.FireFault.TheVariants.{HeldByOther, NothingWaits}
@@ -10,7 +11,7 @@ use Rattle.station.specs.declared.channel.Channel.{Channel}
 use Rattle.station.specs.declared.channel.Channel.TheVariants.{Queued}
 use Rattle.network.specs.Nodes.{Node, number, target, up}
 use Rattle.network.specs.Sums.{sum_over}
-use Rattle.network.proofs.Basics.{along-append, and_both, and_left, and_right, as_true, not_true, put_other, put_same, rest-append, shape-append, sum_none, sum_some, sum_channels-at}
+use Rattle.network.proofs.Basics.{along-append, put_other, put_same, rest-append, shape-append, sum_none, sum_some, sum_channels-at}
 use Rattle.network.proofs.Channels.{Rooted, channel_discrete}
 use Rattle.network.proofs.Conserve.{Distinct, pass-load}
 use Rattle.network.proofs.Flow.{Flow, admits, fired, fired_by, fits, is_empty, load, pass, refusal, refusal_at, refusal_by, shape}
@@ -40,21 +41,21 @@ next_end q w e = rw e
 ends-rest : (h : ℕ) (q ws : List ℕ) → ends ws ≡ true → (rest (h ∷ q) ws ≡ []) × (shape (h ∷ q) ws ≡ true)
 unfolding ends rest shape fits
 ends-rest h q [] e = absurd (grind arith)
-ends-rest h q (w ∷ []) e = (next_end (h ∷ q) w (and_left _ _ e), and_both (and_right (is_tail_word w) _ e) refl)
+ends-rest h q (w ∷ []) e = (next_end (h ∷ q) w (and_parts _ _ e).0, and_from _ _ (and_parts (is_tail_word w) _ e).1 refl)
 ends-rest h q (w ∷ v ∷ ws) e =
-    let s = and_left (not (is_tail_word w) && not (is_head_word w)) (ends (v ∷ ws)) e in
-    let t : is_tail_word w ≡ false = not_true (is_tail_word w) (and_left _ (not (is_head_word w)) s) in
-    let r = ends-rest h (q ++ (w ∷ [])) (v ∷ ws) (and_right (not (is_tail_word w) && not (is_head_word w)) _ e) in
-    rw (next_not (h ∷ q) w t) (r.0, and_both (and_right (not (is_tail_word w)) _ s) r.1)
+    let s = (and_parts (not (is_tail_word w) && not (is_head_word w)) (ends (v ∷ ws)) e).0 in
+    let t : is_tail_word w ≡ false = not-true (is_tail_word w) (and_parts _ (not (is_head_word w)) s).0 in
+    let r = ends-rest h (q ++ (w ∷ [])) (v ∷ ws) (and_parts (not (is_tail_word w) && not (is_head_word w)) _ e).1 in
+    rw (next_not (h ∷ q) w t) (r.0, and_from _ _ (and_parts (not (is_tail_word w)) _ s).1 r.1)
 
 pub packet_rest : (p : List ℕ) → is_packet p ≡ true → (rest [] p ≡ []) × (shape [] p ≡ true)
 unfolding is_packet rest shape fits
 packet_rest [] e = absurd (grind arith)
 packet_rest (h ∷ ws) e =
-    let s = and_left (is_head_word h && not (is_tail_word h)) (ends ws) e in
-    let t : is_tail_word h ≡ false = not_true (is_tail_word h) (and_right (is_head_word h) _ s) in
-    let r = ends-rest h [] ws (and_right (is_head_word h && not (is_tail_word h)) _ e) in
-    rw (next_not [] h t) (r.0, and_both (and_left _ (not (is_tail_word h)) s) r.1)
+    let s = (and_parts (is_head_word h && not (is_tail_word h)) (ends ws) e).0 in
+    let t : is_tail_word h ≡ false = not-true (is_tail_word h) (and_parts (is_head_word h) _ s).1 in
+    let r = ends-rest h [] ws (and_parts (is_head_word h && not (is_tail_word h)) _ e).1 in
+    rw (next_not [] h t) (r.0, and_from _ _ (and_parts _ (not (is_tail_word h)) s).0 r.1)
 
 module _ (W : Shape) (L : Rooted W) (P : Verdicts) where
   -- send
@@ -222,7 +223,7 @@ module _ (W : Shape) (L : Rooted W) (P : Verdicts) where
 
   pub fire_is : (x : Flow) (i : Channel) → ltb (number i) W.cards && is_none (refusal W P x i) ≡ true → (number i < W.cards) × Granted x i
   unfolding is_none
-  fire_is x i e = (ltb→lt (number i) W.cards (as_true _ (and_left _ (is_none (refusal W P x i)) e)), granted x i (is_none_lem (refusal W P x i) (and_right (ltb (number i) W.cards) _ e)))
+  fire_is x i e = (ltb-true (number i) W.cards (and_parts _ (is_none (refusal W P x i)) e).0, granted x i (is_none_lem (refusal W P x i) (and_parts (ltb (number i) W.cards) _ e).1))
     where
       is_none_lem : (r : Option FireFault) → is_none r ≡ true → r ≡ None
       is_none_lem None e = refl

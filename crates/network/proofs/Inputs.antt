@@ -1,6 +1,5 @@
 -- The inputs of a station, and the channels at them.
-use Rattle.std.proofs.Common.{◌≡◌, ℕ, zero, suc, ◌<◌, Bool, true, false, cond, eqb, ◌≢◌, Some, None, Option, sym, refl, ap, ◌∙◌, arith, eqb→eq, eq-eqb, eqb-true}
-use lib.Dec.{eqb_refl}
+use Rattle.std.proofs.Common.{◌≡◌, ℕ, zero, suc, ◌<◌, Bool, true, false, cond, eqb, ◌≢◌, Some, None, Option, sym, refl, ap, ◌∙◌, arith, eq-eqb, eqb-true}
 use Rattle.packet.specs.declared.sides.Side.{Side}
 use Rattle.packet.specs.declared.sides.Side.TheVariants.{Left, Right}
 use Rattle.wiring.specs.Shapes.{Shape}
@@ -10,7 +9,6 @@ use Rattle.station.specs.declared.channel.Channel.TheVariants.{DownLink, Queued,
 use Rattle.station.specs.declared.hold.Input.{Input}
 use Rattle.station.specs.declared.hold.Input.TheVariants.{Left as FromLeft, Parent, Queue, Right as FromRight, Turn}
 use Rattle.network.specs.Nodes.{Node, above, card_of, card_or_zero, down, down_link_into, input_of, number, target, up, up_link_from}
-use Rattle.network.proofs.Basics.{as_eq, as_true}
 use Rattle.network.proofs.Channels.{Rooted}
 
 module _ (W : Shape) (L : Rooted W) where
@@ -61,13 +59,13 @@ module _ (W : Shape) (L : Rooted W) where
     where
       side : (d : Option ℕ) → W.daughter Left c ≡ d → up_link_from d ≡ Some o → FromLeft ≡ named (up c) o
       side None q e = absurd (grind arith)
-      side (Some d) q e = let z : o ≡ UpLink d = cc in rw (z, q, as_eq _ (eqb_refl d))
+      side (Some d) q e = let z : o ≡ UpLink d = cc in rw (z, q, eq-eqb d d refl)
   input_named (up c) FromRight o e = side (W.daughter Right c) refl e
     where
       other : (d : ℕ) → W.daughter Right c ≡ Some d → (f : Option ℕ) → W.daughter Left c ≡ f → (b : Bool) → is_left f d ≡ b → FromRight ≡ cond b FromLeft FromRight
       other d q None r true e = absurd (grind arith)
       other d q None r false e = refl
-      other d q (Some g) r true e = absurd (L.sides c d (r ∙ ap Some (eqb→eq g d (as_true _ e))) q)
+      other d q (Some g) r true e = absurd (L.sides c d (r ∙ ap Some (eqb-true g d e)) q)
       other d q (Some g) r false e = refl
 
       side : (d : Option ℕ) → W.daughter Right c ≡ d → up_link_from d ≡ Some o → FromRight ≡ named (up c) o

@@ -1,5 +1,7 @@
 -- The state of the tree and the network with its history: when they match, and that a fire keeps them so.
 use Rattle.std.proofs.Common.{◌≡◌, ℕ, ◌<◌, Bool, true, false, cond, not, ◌&&◌, leb, ◌≢◌, ◌⊎◌, List, [], ◌∷◌, ◌++◌, length, Some, None, Ok, Err, Option, Result, sym, refl, ap, ◌∙◌, ap₂, inl, inr, append-nil, arith}
+use Rattle.std.proofs.lemmas.Option.{same_Some}
+use Rattle.std.proofs.lemmas.Bool.{and_parts, not-true}
 use mathlib.Core.Logic.{if_neg, if_pos}
 use mathlib.Core.Path.{fun_ext}
 use native.Mathlib.Decide.{ℕ_discrete}
@@ -18,7 +20,7 @@ use Rattle.network.specs.Cards.{State, inbox_room, oldest}
 use Rattle.network.specs.Fires.{Fired, and_then, carried, carry, clear, consumed, kept, passed, passing, waiting_at, waits_by, written}
 use Rattle.network.specs.Nodes.{Node, card_of, input_of, number, station_of, target}
 use Rattle.network.specs.Owed.{hold_of, reads}
-use Rattle.network.proofs.Basics.{and_left, and_right, not_true, put_other, put_same}
+use Rattle.network.proofs.Basics.{put_other, put_same}
 use Rattle.network.proofs.Channels.{Rooted, channel_discrete, node_discrete}
 use Rattle.network.proofs.Delivery.{Brings, delivered}
 use Rattle.network.proofs.Flow.{Flow, admits, all_clear, fired, fired_by, fits, holder, is_empty, pass, push_all, refusal, refusal_at, refusal_by, shape}
@@ -49,19 +51,16 @@ fits_first (h ∷ q) w e f = absurd (grind arith)
 fits-later : (q : List ℕ) (w : ℕ) → is_empty q ≡ false → fits q w ≡ true → is_head_word w ≡ false
 unfolding fits is_empty
 fits-later [] w e f = absurd (grind arith)
-fits-later (h ∷ q) w e f = not_true (is_head_word w) f
+fits-later (h ∷ q) w e f = not-true (is_head_word w) f
 
 clear_all : (f : Channel → List ℕ) (os : List Channel) → all_clear f os ≡ true → All (λ o. f o ≡ []) os
 unfolding all_clear is_empty
 clear_all f [] e = tt
-clear_all f (o ∷ os) e = (nil (f o) (and_left _ _ e), clear_all f os (and_right (is_empty (f o)) _ e))
+clear_all f (o ∷ os) e = (nil (f o) (and_parts _ _ e).0, clear_all f os (and_parts (is_empty (f o)) _ e).1)
   where
     nil : (l : List ℕ) → is_empty l ≡ true → l ≡ []
     nil [] e = refl
     nil (w ∷ ws) e = absurd (grind arith)
-
-same_channel_lem : {a b : Channel} → Some a ≡ Some b → a ≡ b
-same_channel_lem e = cc
 
 -- a fire of the machine beside the one of the network
 abbrev pub Beside : Shape → Verdicts → State → Flow → Channel → Fired → Type 0
@@ -135,7 +134,7 @@ module _
                 let ji : j ≡ i = input_same W L s i j o at (jk ∙ ap Some (sym p)) in
                 rw (ji, same_input_self i, merge-later (kind_of w) (fits-later q w (G.inv.begun s o (e ∙ ap Some (sym p))) f), if_pos (channel_discrete o k) p true false)
             | no n ↦
-                rw (same_input_not j i (λ ji. n (same_channel_lem (sym at ∙ ap (input_of W s) (sym ji) ∙ jk))), if_neg (channel_discrete o k) n true false)
+                rw (same_input_not j i (λ ji. n (same_Some _ _ (sym at ∙ ap (input_of W s) (sym ji) ∙ jk))), if_neg (channel_discrete o k) n true false)
           ]
 
   -- what the station does, by the words that have passed
@@ -341,7 +340,7 @@ module _
       ways (w ∷ ws) e = rw (hold_is x s) (by (admits (y.source s) o) refl)
         where
           f : fits q w ≡ true
-          f = and_left _ (shape (next q w) ws) (sym (ap (shape q) e) ∙ G.shaped o)
+          f = (and_parts _ (shape (next q w) ws) (sym (ap (shape q) e) ∙ G.shaped o)).0
 
           out : Result (Unit {0}) FireFault → Fired
           out m = and_then x m (λ _. carry x (card_of s) (station_of s) i o w (planned W P (card_of s) (station_of s) d w))

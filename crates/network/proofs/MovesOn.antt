@@ -1,5 +1,6 @@
 -- A granted fire moves one word of a sent packet one station on along the packet's path.
-use Rattle.std.proofs.Common.{◌≡◌, ℕ, ◌<◌, Bool, true, false, cond, not, ◌&&◌, ltb, List, [], ◌∷◌, ◌++◌, length, get_or, Some, None, Ok, Err, Option, sym, refl, ap, ◌∙◌, subst, ap₂, inl, inr, arith, ltb→lt, length-append}
+use Rattle.std.proofs.Common.{◌≡◌, ℕ, ◌<◌, Bool, true, false, cond, not, ◌&&◌, ltb, List, [], ◌∷◌, ◌++◌, length, get_or, Some, None, Ok, Err, Option, sym, refl, ap, ◌∙◌, subst, ap₂, inl, inr, arith, length-append, ltb-true}
+use Rattle.std.proofs.lemmas.Bool.{and_parts}
 use Rattle.refusal.specs.declared.drive.FireFault.{FireFault}
 use Rattle.refusal.specs.declared.drive.FireFault.TheVariants.{HeldByOther, LinkOccupied, NoCard, NoInput, NothingWaits}
 use Rattle.packet.specs.Routes.{advance}
@@ -9,15 +10,14 @@ use Rattle.station.specs.declared.channel.Channel.{Channel}
 use Rattle.station.specs.declared.channel.Channel.TheVariants.{Queued}
 use Rattle.station.specs.declared.hold.Input.{Input}
 use Rattle.station.specs.declared.hold.Station.{Station}
-use Rattle.station.specs.declared.hold.Station.TheVariants.{Down, Up}
 use Rattle.network.specs.Arrivals.{Parcel}
 use Rattle.network.specs.Cards.{State, oldest, younger}
 use Rattle.network.specs.Fires.{Fired, fire_step, waiting_at}
-use Rattle.network.specs.Nodes.{Node, card_of, input_of, node_of, number, outs, target, up}
+use Rattle.network.specs.Nodes.{Node, input_of, node_of, number, outs, target, up}
 use Rattle.network.specs.Paths.{Among, FiresMoveOn, OneOn, Passes, Step, as_comes}
 use Rattle.network.specs.Runs.{Run, run}
 use Rattle.network.specs.Owed.{reads}
-use Rattle.network.proofs.Basics.{and_left, and_right, as_true, put_other, put_same}
+use Rattle.network.proofs.Basics.{put_other, put_same}
 use Rattle.network.proofs.Channels.{Rooted, channel_discrete, rooted}
 use Rattle.network.proofs.Conserve.{SendsInto, moved_push}
 use Rattle.network.proofs.Flow.{Flow, admits, all_clear, fired, fits, is_empty, pass, refusal, refusal_at, refusal_by}
@@ -28,7 +28,7 @@ use Rattle.network.proofs.Inputs.{input_known}
 use Rattle.network.proofs.Match.{Beside}
 use Rattle.network.proofs.Preserve.{all_send, chan_out, passed-at, passed_out}
 use Rattle.network.proofs.Outputs.{outs_step, All, all_map}
-use Rattle.network.proofs.Simulate.{History-of, fire_beside, follows}
+use Rattle.network.proofs.Simulate.{History-of, fire_beside, follows, node_card}
 use Rattle.network.proofs.Traced.{Part, Traced, among_last, packet_traced, part_on, step_elem, traced_append, traced_more}
 use Rattle.network.proofs.UnderWay.{leaves, moved, outs_of, rest}
 use Rattle.network.proofs.Writes.{waiting_is}
@@ -79,7 +79,7 @@ clear_at f os o a e = all_elem (λ o. f o ≡ []) o os (all os a) e
 
     all : (os : List Channel) → all_clear f os ≡ true → All (λ o. f o ≡ []) os
     all [] a = tt
-    all (p ∷ os) a = (nil (f p) (and_left _ _ a), all os (and_right (is_empty (f p)) _ a))
+    all (p ∷ os) a = (nil (f p) (and_parts _ _ a).0, all os (and_parts (is_empty (f p)) _ a).1)
 
 third : (a b c : Bool) (r s t : FireFault) (k : Option FireFault) → cond (not a) (Some r) (cond (not b) (Some s) (cond (not c) (Some t) k)) ≡ None → c ≡ true
 third true true true r s t k e = refl
@@ -91,11 +91,6 @@ granted-clear : (W : Shape) (P : Verdicts) (x : Flow) (i : Channel) (w : ℕ) (w
 unfolding refusal refusal_by refusal_at
 granted-clear W P x i w ws f e =
     third (fits (x.passed i) w) (admits (x.source (target W i)) i) _ NothingWaits HeldByOther LinkOccupied _ (sym (ap (refusal_by W P x i) f) ∙ e)
-
-node_card : (c : ℕ) (t : Station) → card_of (node_of c t) ≡ c
-unfolding card_of
-node_card c Up = refl
-node_card c Down = refl
 
 module _ (W : Shape) (L : Rooted W) (P : Verdicts) where
   -- every word in every channel is a word of a packet of S, on its path
@@ -209,7 +204,7 @@ module _ (W : Shape) (L : Rooted W) (P : Verdicts) where
       at h (Some o) e = (o, e)
 
       ways : (b : Bool) → ltb c W.cards ≡ b → (c < W.cards) × (o : Channel) × (input_of W (node_of c t) i ≡ Some o)
-      ways true e = let (o, f) = at e (input_of W (node_of c t) i) refl in (ltb→lt c W.cards (as_true _ e), o, f)
+      ways true e = let (o, f) = at e (input_of W (node_of c t) i) refl in (ltb-true c W.cards e, o, f)
       ways false e = absurd (refused NoCard (rw e))
 
   -- not among the outputs

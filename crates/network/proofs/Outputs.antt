@@ -28,10 +28,6 @@ pub all_map₂ : {A : Type 0} (P Q R : A → Type 0) → ((x : A) → P x → Q 
 all_map₂ P Q R g [] a b = tt
 all_map₂ P Q R g (x ∷ xs) a b = (g x a.0 b.0, all_map₂ P Q R g xs a.1 b.1)
 
-pub all_cond : {A : Type 0} (P : A → Type 0) (b : Bool) (xs ys : List A) → All P xs → All P ys → All P (cond b xs ys)
-all_cond P true xs ys a b = a
-all_cond P false xs ys a b = b
-
 pub sum_over_same : {A : Type 0} (f g : A → ℕ) (xs : List A) → All (λ o. f o ≡ g o) xs → sum_over xs f ≡ sum_over xs g
 unfolding sum_over
 sum_over_same f g [] e = refl

@@ -1,5 +1,6 @@
 -- Hops owed, read off the state, are the load of the network with history.
 use Rattle.std.proofs.Common.{◌≡◌, ℕ, zero, suc, ◌+◌, ◌*◌, Bool, true, false, cond, not, ◌≢◌, ◌⊎◌, List, [], ◌∷◌, ◌++◌, Some, None, Option, sym, refl, ap, ◌∙◌, ap₂, inl, inr, arith}
+use Rattle.std.proofs.lemmas.Bool.{and_parts, not-true}
 use Rattle.packet.proofs.Moving.{head_not_tail}
 use Rattle.packet.specs.Routes.{advance, stops}
 use Rattle.packet.specs.Packets.{is_head_word, is_tail_word}
@@ -16,7 +17,7 @@ use Rattle.network.specs.Cards.{State, oldest}
 use Rattle.network.specs.Nodes.{Node, down, input_of, outs, same_channel, target, up}
 use Rattle.network.specs.Owed.{ahead, by_head, head_by, hold_of, hops_owed, is_channel, owed_for, owed_in}
 use Rattle.network.specs.Sums.{sum_channels}
-use Rattle.network.proofs.Basics.{and_left, and_right, not_true, sum_to_same}
+use Rattle.network.proofs.Basics.{sum_to_same}
 use Rattle.network.proofs.Channels.{channel_discrete, same_channel_is, same_channel_self}
 use Rattle.network.proofs.Flow.{Flow, fits, load, shape}
 use Rattle.network.proofs.History.{one}
@@ -43,15 +44,15 @@ owed_along : (W : Shape) (k : ℕ) (s : Node) (ws q : List ℕ) (g : Option ℕ)
 unfolding along owed_for shape fits by_head
 owed_along W k s [] q g f r = refl
 owed_along W k s (w ∷ ws) [] g f r =
-    let h : is_head_word w ≡ true = and_left _ _ f in
+    let h : is_head_word w ≡ true = (and_parts _ _ f).0 in
     let n : next [] w ≡ w ∷ [] = next_not [] w (head_not_tail w h) in
-    let t = owed_along W k s ws (w ∷ []) (Some w) (sym (ap (λ (q : List ℕ). shape q ws) n) ∙ and_right (is_head_word w) _ f) (inr refl) in
+    let t = owed_along W k s ws (w ∷ []) (Some w) (sym (ap (λ (q : List ℕ). shape q ws) n) ∙ (and_parts (is_head_word w) _ f).1) (inr refl) in
     let u = weight-ahead W k s w [] in
     rw (n, h) (omega arith)
 owed_along W k s (w ∷ ws) (h ∷ q) g f r =
-    let nh : is_head_word w ≡ false = not_true (is_head_word w) (and_left _ _ f) in
+    let nh : is_head_word w ≡ false = not-true (is_head_word w) (and_parts _ _ f).0 in
     let gh : g ≡ Some h = by r in
-    let t = owed_along W k s ws (next (h ∷ q) w) g (and_right (not (is_head_word w)) _ f) (later (is_tail_word w) refl) in
+    let t = owed_along W k s ws (next (h ∷ q) w) g (and_parts (not (is_head_word w)) _ f).1 (later (is_tail_word w) refl) in
     let u = weight-ahead W k s h (q ++ (w ∷ [])) in
     let v : by_head W k s g ≡ ahead W k s h = rw gh in
     rw nh (omega arith)

@@ -38,9 +38,6 @@ kept_words Onward = []
 kept_words Dropped = []
 kept_words (Kept w) = w ∷ []
 
-nil_right : {A : Type 0} (xs : List A) → xs ++ [] ≡ xs
-nil_right xs = append-nil xs
-
 module _ (W : Shape) (L : Rooted W) where
   up_links : (c : ℕ) (b : Bool) (w : ℕ) → c < W.cards → links_of c (up_by c b w) ≡ cond b (up_link_of c (above W c)) (TurnLink c ∷ [])
   unfolding links_of up_link_of down_link_to
@@ -61,7 +58,7 @@ module _ (W : Shape) (L : Rooted W) where
       ways true true t = refl
       ways true false t = refl
       ways false b true = refl
-      ways false b false = nil_right (down_link_to (W.daughter Left c))
+      ways false b false = append-nil (down_link_to (W.daughter Left c))
 
   down_word : (c h w : ℕ) (e : Here) → ((down_by W c h w e).word ≡ w) × ((down_by W c h w e).here ≡ e)
   down_word c h w e = ways (stops h) (floods h) (top_bit h)

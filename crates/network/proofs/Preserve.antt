@@ -1,11 +1,12 @@
 -- A granted fire keeps the invariant of the channels.
 use Rattle.std.proofs.Common.{◌≡◌, ℕ, ◌<◌, Bool, true, false, cond, ◌≢◌, ◌⊎◌, List, [], ◌∷◌, ◌++◌, Some, None, Option, sym, refl, ap, ◌∙◌, subst, inl, inr, arith}
+use Rattle.std.proofs.lemmas.Bool.{and_parts, and_from}
 use Rattle.packet.specs.Packets.{is_tail_word}
 use Rattle.wiring.specs.Shapes.{Shape}
 use Rattle.station.specs.Plans.{Verdicts}
 use Rattle.station.specs.declared.channel.Channel.{Channel}
 use Rattle.network.specs.Nodes.{Node, number, target}
-use Rattle.network.proofs.Basics.{and_both, and_left, and_right, put_other, put_same, rest_push, shape-append}
+use Rattle.network.proofs.Basics.{put_other, put_same, rest_push, shape-append}
 use Rattle.network.proofs.Channels.{Rooted, channel_discrete, node_discrete}
 use Rattle.network.proofs.Conserve.{Distinct, SendsInto}
 use Rattle.network.proofs.Flow.{Flow, fits, holder, is_empty, pass, shape}
@@ -224,16 +225,16 @@ module _
       first = sym (ap (shape q) front) ∙ S i
 
       one : fits (moved q) (leaves q w) ≡ true
-      one = moved-fits q w ∙ and_left _ (shape (next q w) ws) first
+      one = moved-fits q w ∙ (and_parts _ (shape (next q w) ws) first).0
 
       ways : (b : Bool) → elem o os ≡ b → shape (x'.passed o) (x'.chan o) ≡ true
       ways true e =
           let n : o ≢ i = all_elem (λ o. o ≢ i) o os ne e in
           let f : rest (x.passed o) (x.chan o) ≡ moved q = (all_elem (SendsInto W x i q) o os all_send e).follows in
-          rw (passed_out o n, chan_in o e d) (shape-append (x.passed o) (x.chan o) (leaves q w ∷ []) (S o) (rw f (and_both one refl)))
+          rw (passed_out o n, chan_in o e d) (shape-append (x.passed o) (x.chan o) (leaves q w ∷ []) (S o) (rw f (and_from _ _ one refl)))
       ways false e =
           elim (channel_discrete o i) [
-            | yes p ↦ rw (p, passed-at, chan_at) (and_right (fits q w) _ first)
+            | yes p ↦ rw (p, passed-at, chan_at) (and_parts (fits q w) _ first).1
             | no n ↦ rw (passed_out o n, chan_out o e n) (S o)
           ]
 

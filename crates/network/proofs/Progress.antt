@@ -1,5 +1,6 @@
 -- Where a word waits, some fire is granted, or refused for a full inbox alone.
 use Rattle.std.proofs.Common.{◌≡◌, ℕ, zero, suc, ◌+◌, ◌<◌, ◌≤◌, Bool, true, false, cond, ◌&&◌, ◌⊎◌, List, [], ◌∷◌, ◌++◌, Some, None, Option, sym, refl, ap, ◌∙◌, inl, inr, arith}
+use Rattle.std.proofs.lemmas.Bool.{and_parts}
 use mathlib.Core.Logic.{if_neg, if_pos}
 use Rattle.refusal.specs.declared.drive.FireFault.{FireFault}
 use Rattle.refusal.specs.declared.drive.FireFault.TheVariants.{InboxFull}
@@ -11,7 +12,6 @@ use Rattle.station.specs.declared.channel.Channel.{Channel}
 use Rattle.station.specs.declared.channel.Channel.TheVariants.{DownLink, Queued, TurnLink, UpLink}
 use Rattle.network.specs.Nodes.{Node, above, card_or_zero, down, number, outs, target, up, up_link_of}
 use Rattle.network.specs.Paths.{Step, climbs, descends, spreads, turns}
-use Rattle.network.proofs.Basics.{and_left}
 use Rattle.network.proofs.Channels.{Rooted, channel_discrete}
 use Rattle.network.proofs.Feeders.{outs_of_more}
 use Rattle.network.proofs.Flow.{Flow, admits, all_clear, fits, is_empty, refusal, refusal_at, refusal_by, shape}
@@ -56,7 +56,7 @@ module _ (W : Shape) (L : Rooted W) (P : Verdicts) (x : Flow) (I : Inv W x) (S :
       all_clear x.chan (outs_of W (target W i) (x.passed i ++ (w ∷ []))) ≡ true → Moving
   unfolding refusal refusal_by refusal_at shape
   go i w ws e a c =
-      let f : fits (x.passed i) w ≡ true = and_left _ (shape (next (x.passed i) w) ws) (sym (ap (shape (x.passed i)) e) ∙ S i) in
+      let f : fits (x.passed i) w ≡ true = (and_parts _ (shape (next (x.passed i) w) ws) (sym (ap (shape (x.passed i)) e) ∙ S i)).0 in
       (i, known i w ws e, rw (e, f, a, c) (last _))
 
   -- a station that is held for an empty channel is being sent to

@@ -1,5 +1,6 @@
 -- No queue and no inbox ever has more words than it has room for.
 use Rattle.std.proofs.Common.{◌≡◌, ℕ, ◌+◌, ◌≤◌, Bool, true, false, cond, not, ◌&&◌, ltb, leb, List, [], ◌∷◌, ◌++◌, length, Some, None, Ok, Err, Option, Result, sym, refl, ap, ◌∙◌, inl, inr, arith, length-append, leb-false}
+use Rattle.std.proofs.lemmas.Bool.{and_parts}
 use native.Mathlib.Decide.{ℕ_discrete}
 use Rattle.refusal.specs.declared.drive.FireFault.{FireFault}
 use Rattle.refusal.specs.declared.drive.FireFault.TheVariants.{HeldByOther, InboxFull, LinkOccupied, NothingWaits}
@@ -11,7 +12,7 @@ use Rattle.station.specs.declared.channel.Channel.TheVariants.{Queued}
 use Rattle.network.specs.Cards.{inbox_room, queue_room}
 use Rattle.network.specs.Nodes.{Node, card_of, number, target}
 use Rattle.network.specs.Sends.{Way, send_way}
-use Rattle.network.proofs.Basics.{and_right, put-eq, put_other}
+use Rattle.network.proofs.Basics.{put-eq, put_other}
 use Rattle.network.proofs.Channels.{Rooted, channel_discrete}
 use Rattle.network.proofs.Delivery.{Brings, delivered}
 use Rattle.network.proofs.Feeders.{outs_of_fed}
@@ -154,7 +155,7 @@ module _ (W : Shape) (L : Rooted W) (P : Verdicts) where
   step_room (moving i) h R = ways (ltb (number i) W.cards && is_none (refusal W P h.flow i)) refl
     where
       ways : (b : Bool) → ltb (number i) W.cards && is_none (refusal W P h.flow i) ≡ b → Roomy (step_fire W P h i b).flow
-      ways true e = fired_room h.flow i (none_is (refusal W P h.flow i) (and_right (ltb (number i) W.cards) _ e)) (fire_is W L P h.flow i e).1 R
+      ways true e = fired_room h.flow i (none_is (refusal W P h.flow i) (and_parts (ltb (number i) W.cards) _ e).1) (fire_is W L P h.flow i e).1 R
       ways false e = R
   step_room (taking c) h R = took_room h.flow c (h.flow.inbox c) refl R
   step_room resting h R = R

@@ -1,5 +1,5 @@
 -- A granted send: a packet, from a card of the tree, on a way that exists.
-use Rattle.std.proofs.Common.{◌≡◌, ℕ, ◌+◌, ◌*◌, ◌<◌, ◌≤◌, Bool, true, false, cond, eqb, ltb, leb, List, [], ◌∷◌, length, Some, None, Ok, Err, Option, Result, sym, refl, ap, ◌∙◌, arith, ltb→lt, leb→le, ne_eqb}
+use Rattle.std.proofs.Common.{◌≡◌, ℕ, ◌+◌, ◌*◌, ◌<◌, ◌≤◌, Bool, true, false, cond, eqb, ltb, leb, List, [], ◌∷◌, length, Some, None, Ok, Err, Option, Result, sym, refl, ap, ◌∙◌, arith, ne_eqb, ltb-true, leb-true}
 use Rattle.refusal.specs.declared.send.PacketFault.{PacketFault}
 use Rattle.refusal.specs.declared.send.PacketFault.TheVariants.{Kinds, Length, NoSender, QueueFull, Reserved, Route}
 use Rattle.refusal.specs.declared.send.RouteFault.{RouteFault}
@@ -19,7 +19,6 @@ use Rattle.network.specs.Arrivals.{walk_for}
 use Rattle.network.specs.Cards.{queue_room}
 use Rattle.network.specs.Nodes.{up}
 use Rattle.network.specs.Sends.{Way, room_by, send_way, way_by, way_for}
-use Rattle.network.proofs.Basics.{as_true}
 use Rattle.network.proofs.Channels.{Rooted}
 use Rattle.network.proofs.History.{ends, is_granted, is_packet}
 use Rattle.network.proofs.Trip.{is_way, trip, way}
@@ -133,7 +132,7 @@ module _ (W : Shape) (L : Rooted W) where
   room_ok n (Ok v) w e = by (leb n queue_room) refl e
     where
       by : (b : Bool) → leb n queue_room ≡ b → cond b (Ok v) (Err QueueFull) ≡ Ok w → (◌≡◌ {A = Result Way PacketFault} (Ok v) (Ok w)) × (n ≤ queue_room)
-      by true q e = (e, leb→le n queue_room (as_true _ q))
+      by true q e = (e, leb-true n queue_room q)
       by false q e = absurd (grind arith)
 
   way_ok : (c : ℕ) (p : List ℕ) (g : Result Header PacketFault) (w : Way) → check_packet p ≡ g → way_for W c g ≡ Ok w →
@@ -154,7 +153,7 @@ module _ (W : Shape) (L : Rooted W) where
       by true q e =
           let r = room_ok (n + length p) _ w e in
           let (k, z) = way_ok c p (check_packet p) w refl r.0 in
-          record { known = ltb→lt c W.cards (as_true _ q); packet = k; route = z }
+          record { known = ltb-true c W.cards q; packet = k; route = z }
       by false q e = absurd (grind arith)
 
   -- the queue has room for what is queued

@@ -1,6 +1,6 @@
 -- Every run of the machine has a run of the network with history beside it.
-use Rattle.std.proofs.Common.{◌≡◌, ℕ, zero, suc, ◌+◌, ◌<◌, Bool, true, false, cond, ◌&&◌, eqb, ltb, ◌≢◌, List, [], ◌∷◌, ◌++◌, length, get_or, replicate, Some, None, Ok, Err, Option, Result, sym, refl, ap, ◌∙◌, inl, inr, append-nil, arith, eqb→eq, ltb→lt, lt→ltb}
-use lib.Dec.{eqb_refl}
+use Rattle.std.proofs.Common.{◌≡◌, ℕ, zero, suc, ◌+◌, ◌<◌, Bool, true, false, cond, ◌&&◌, eqb, ltb, ◌≢◌, List, [], ◌∷◌, ◌++◌, length, get_or, replicate, Some, None, Ok, Err, Option, Result, sym, refl, ap, ◌∙◌, inl, inr, append-nil, arith, eq-eqb, ltb-true, eqb-true, lt-ltb}
+use Rattle.std.proofs.lemmas.Bool.{and_from}
 use mathlib.Core.Path.{fun_ext}
 use native.Mathlib.Decide.{ℕ_discrete}
 use Rattle.refusal.specs.declared.drive.FireFault.{FireFault}
@@ -24,7 +24,7 @@ use Rattle.network.specs.Owed.{hold_in, hold_of, holds, on_link, reads}
 use Rattle.network.specs.Runs.{Call, Run, fire, if_granted, one_if, onward, owed, run, run_from, send, start, take, word_of}
 use Rattle.network.specs.Sends.{Way, send_way, sent_answer, sent_state}
 use Rattle.network.specs.Takes.{Taken, taken_by}
-use Rattle.network.proofs.Basics.{and_both, as_eq, as_true, put_other, put_same}
+use Rattle.network.proofs.Basics.{put_other, put_same}
 use Rattle.network.proofs.Channels.{Rooted, channel_discrete}
 use Rattle.network.proofs.Flow.{Flow, fired, fired_by, pass, refusal}
 use Rattle.network.proofs.History.{Event, History, happens, is_granted, is_none, moving, none_yet, past, queued, queueing, resting, sendable, step_fire, step_send, taking, took_by}
@@ -92,7 +92,7 @@ empty_match W P =
     none_at (up c) = refl
     none_at (down c) = refl
 
-node_card : (c : ℕ) (t : Station) → card_of (node_of c t) ≡ c
+pub node_card : (c : ℕ) (t : Station) → card_of (node_of c t) ≡ c
 unfolding card_of
 node_card c Up = refl
 node_card c Down = refl
@@ -112,7 +112,7 @@ module _ (W : Shape) (L : Rooted W) (P : Verdicts) where
       let b = beside W L P x y M G o i at k.1 in
       let cs : card_of (target W o) ≡ c = ap card_of k.0 ∙ node_card c t in
       let ts : station_of (target W o) ≡ t = ap station_of k.0 ∙ node_station c t in
-      let z : fire_step W P x c t i ≡ and_then x (waits x o) (λ w. passing W P x c t i o w) = rw (as_eq _ (lt→ltb c W.cards hc), e) in
+      let z : fire_step W P x c t i ≡ and_then x (waits x o) (λ w. passing W P x c t i o w) = rw (lt-ltb c W.cards hc, e) in
       (rw (z, ← cs, ← ts) b, k.1)
 
   module _ (r : Run) (h : History) (F : Follows W P r h) (G : Good W h.flow) where
@@ -173,11 +173,11 @@ module _ (W : Shape) (L : Rooted W) (P : Verdicts) where
     unfolding happens step_fire is_none
     fire_some c t i o hc e =
         let (b, hn) = fire_beside x y F.match G c t i o hc e in
-        ways (fire_step W P x c t i) b (as_eq _ (lt→ltb (number o) W.cards hn))
+        ways (fire_step W P x c t i) b (lt-ltb (number o) W.cards hn)
       where
         ways : (out : Fired) → Beside W P x y o out → ltb (number o) W.cards ≡ true → Follows W P (fired_run out) (happens W P (moving o) h)
         ways out (inl (n, x', e₁, r₁, m)) l =
-            let z : ltb (number o) W.cards && is_none (refusal W P y o) ≡ true = and_both l (ap is_none r₁) in
+            let z : ltb (number o) W.cards && is_none (refusal W P y o) ≡ true = and_from _ _ l (ap is_none r₁) in
             rw (z, e₁) (record { match = m; sends = F.sends; moves = ap (λ (n : ℕ). n + 1) F.moves; takes = λ d. F.takes d ∙ sym (ap (λ (f : ℕ → List ℕ). f d) (fired_taken W P y o)) })
         ways out (inr (f, e₁, e₂)) l =
             let z : ltb (number o) W.cards && is_none (refusal W P y o) ≡ false = rw (l, e₂) in
@@ -189,7 +189,7 @@ module _ (W : Shape) (L : Rooted W) (P : Verdicts) where
       where
         at : (b : Bool) → ltb c W.cards ≡ b → b ≡ true → (o : Option Channel) → input_of W (node_of c t) i ≡ o → Follows W P (fired_run (fire_step W P x c t i)) (happens W P (move_or o) h)
         at b q z None e = let u : fire_step W P x c t i ≡ record { answer = Err NoInput; next = x } = rw (q ∙ z, e) in rw u (refused_fire NoInput)
-        at b q z (Some o) e = fire_some c t i o (ltb→lt c W.cards (as_true _ (q ∙ z))) e
+        at b q z (Some o) e = fire_some c t i o (ltb-true c W.cards (q ∙ z)) e
 
         ways : (b : Bool) → ltb c W.cards ≡ b → Follows W P (fired_run (fire_step W P x c t i)) (happens W P (cond b (move_or (input_of W (node_of c t) i)) resting) h)
         ways true q = at true q refl (input_of W (node_of c t) i) refl
@@ -211,12 +211,12 @@ module _ (W : Shape) (L : Rooted W) (P : Verdicts) where
     took_taken : (c d w : ℕ) → r.taken d ++ cond (eqb d c) (w ∷ []) [] ≡ put ℕ_discrete y.taken c (y.taken c ++ (w ∷ [])) d
     took_taken c d w =
         elim (ℕ_discrete d c) [
-          | yes e ↦ rw (e, as_eq _ (eqb_refl c), F.takes c) (sym (put_same ℕ_discrete y.taken c (y.taken c ++ (w ∷ []))))
+          | yes e ↦ rw (e, eq-eqb c c refl, F.takes c) (sym (put_same ℕ_discrete y.taken c (y.taken c ++ (w ∷ []))))
           | no n ↦ ways (eqb d c) refl n ∙ F.takes d ∙ sym (put_other ℕ_discrete y.taken c (y.taken c ++ (w ∷ [])) d n)
         ]
       where
         ways : (b : Bool) → eqb d c ≡ b → d ≢ c → r.taken d ++ cond b (w ∷ []) [] ≡ r.taken d
-        ways true e n = absurd (n (eqb→eq d c (as_true _ e)))
+        ways true e n = absurd (n (eqb-true d c e))
         ways false e n = append-nil (r.taken d)
 
     none_taken : (c d : ℕ) → r.taken d ++ cond (eqb d c) [] [] ≡ r.taken d
@@ -245,7 +245,7 @@ module _ (W : Shape) (L : Rooted W) (P : Verdicts) where
             Follows W P (took_run c (cond b (taken_by x c (oldest (card_at x c).inbox)) (record { answer = Err NoReader; next = x }))) (happens W P (cond b (taking c) resting) h)
         ways true e =
             let z = F.match.inbox c in
-            rw (ap oldest z) (at (ltb→lt c W.cards (as_true _ e)) (y.inbox c) refl z)
+            rw (ap oldest z) (at (ltb-true c W.cards e) (y.inbox c) refl z)
         ways false e = refused_take c NoReader
 
     pub goes : (k : Call) → Follows W P (onward W P r k) (happens W P (beneath W k) h)

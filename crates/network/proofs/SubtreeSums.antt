@@ -1,5 +1,6 @@
 -- A sum over a card's subtree is a sum over all cards that it stands above.
 use Rattle.std.proofs.Common.{◌≡◌, ℕ, zero, suc, ◌+◌, ◌<◌, ◌≤◌, Bool, true, false, cond, eqb, ◌≢◌, Some, None, Option, sym, refl, ap, ◌∙◌, arith, eq-eqb, ne_eqb}
+use Rattle.std.proofs.lemmas.Option.{same_Some}
 use native.Mathlib.Decide.{ℕ_discrete}
 use Rattle.packet.specs.declared.sides.Side.{Side}
 use Rattle.packet.specs.declared.sides.Side.TheVariants.{Left, Right}
@@ -12,12 +13,6 @@ use Rattle.network.proofs.Basics.{sum_to_same}
 use Rattle.network.proofs.Channels.{Rooted}
 use Rattle.network.proofs.Trip.{over, subtree}
 use Rattle.network.proofs.TripWeights.{sum_over-append}
-
-pub eqb_yes : (m n : ℕ) → m ≡ n → eqb m n ≡ true
-eqb_yes m n e = eq-eqb m n e
-
-pub eqb_no : (m n : ℕ) → m ≢ n → eqb m n ≡ false
-eqb_no m n e = ne_eqb m n e
 
 sum_to_add : (n : ℕ) (f g : ℕ → ℕ) → sum_to n (λ d. f d + g d) ≡ sum_to n f + sum_to n g
 unfolding sum_to
@@ -36,12 +31,12 @@ sum_to_point zero c f h = absurd (omega arith)
 sum_to_point (suc n) c f h =
     elim (ℕ_discrete c n) [
       | yes p ↦
-          let z : sum_to n (λ d. cond (eqb c d) (f d) 0) ≡ 0 = sum_to_same n _ (λ d. 0) (λ d l. rw (eqb_no c d (λ e. below d l (sym e ∙ p)))) ∙ sum_to_zero n in
-          let u : cond (eqb c n) (f n) 0 ≡ f c = rw (eqb_yes c n p) (ap f (sym p)) in
+          let z : sum_to n (λ d. cond (eqb c d) (f d) 0) ≡ 0 = sum_to_same n _ (λ d. 0) (λ d l. rw (ne_eqb c d (λ e. below d l (sym e ∙ p)))) ∙ sum_to_zero n in
+          let u : cond (eqb c n) (f n) 0 ≡ f c = rw (eq-eqb c n p) (ap f (sym p)) in
           omega arith
       | no np ↦
           let t = sum_to_point n c f (omega arith) in
-          let u : cond (eqb c n) (f n) 0 ≡ 0 = rw (eqb_no c n np) in
+          let u : cond (eqb c n) (f n) 0 ≡ 0 = rw (ne_eqb c n np) in
           omega arith
     ]
   where
@@ -58,9 +53,6 @@ unfoldable pub over_n : (ℕ → ℕ) → Option ℕ → ℕ
 over_n f None = 0
 over_n f (Some d) = f d
 
-some_same : {x y : ℕ} → Some x ≡ Some y → x ≡ y
-some_same e = cc
-
 module _ (W : Shape) (L : Rooted W) where
   covers_no : (t d : ℕ) → d < t → covers W t d ≡ false
   covers_no t d h = ways (covers W t d) refl
@@ -74,7 +66,7 @@ module _ (W : Shape) (L : Rooted W) where
   covers-above t d a n p = let (b, q) = L.whose d a p in covers_other W L.lawful t d a b q n
 
   covers_top : (t d : ℕ) → t ≢ d → above W d ≡ None → covers W t d ≡ false
-  covers_top t d n p = covers_step W L.lawful t d ∙ rw (L.alone d p, eqb_no t d n)
+  covers_top t d n p = covers_step W L.lawful t d ∙ rw (L.alone d p, ne_eqb t d n)
 
   module _ (v c : ℕ) where
     abbrev hit : ℕ → ℕ → ℕ
@@ -85,7 +77,7 @@ module _ (W : Shape) (L : Rooted W) where
     unfolding over_n
     side_same d a b None q p n = refl
     side_same d a b (Some e) q p n =
-        let ne : e ≢ d = λ z. n (some_same (sym (L.up b c e q) ∙ ap (above W) z ∙ p)) in
+        let ne : e ≢ d = λ z. n (same_Some _ _ (sym (L.up b c e q) ∙ ap (above W) z ∙ p)) in
         rw (covers-above e d a ne p)
 
     -- a daughter of c stands above no card up to c
@@ -130,7 +122,7 @@ module _ (W : Shape) (L : Rooted W) where
         elim (ℕ_discrete c d) [
           | yes e ↦
               let x : hit d c ≡ v = rw (e, covers_self W L.lawful d) in
-              let y : cond (eqb c d) v 0 ≡ v = rw (eqb_yes c d e) in
+              let y : cond (eqb c d) v 0 ≡ v = rw (eq-eqb c d e) in
               let l = side_none d Left (W.daughter Left c) refl (omega arith) in
               let r = side_none d Right (W.daughter Right c) refl (omega arith) in
               omega arith
@@ -140,26 +132,26 @@ module _ (W : Shape) (L : Rooted W) where
         ways : c ≢ d → (o : Option ℕ) → above W d ≡ o → ((a : ℕ) → a < k → Split a) → Split d
         ways n None p rec =
             let x : hit d c ≡ 0 = rw (covers_top c d n p) in
-            let y : cond (eqb c d) v 0 ≡ 0 = rw (eqb_no c d n) in
+            let y : cond (eqb c d) v 0 ≡ 0 = rw (ne_eqb c d n) in
             let l = side_root d Left (W.daughter Left c) refl p in
             let r = side_root d Right (W.daughter Right c) refl p in
             omega arith
         ways n (Some a) p rec =
             let x : hit d c ≡ hit a c = rw (covers-above c d a n p) in
-            let y : cond (eqb c d) v 0 ≡ 0 = rw (eqb_no c d n) in
+            let y : cond (eqb c d) v 0 ≡ 0 = rw (ne_eqb c d n) in
             let t = L.below d a p in
             let i = rec a (omega arith) in
             elim (ℕ_discrete c a) [
               | yes e ↦
                   let p' : above W d ≡ Some c = p ∙ ap Some (sym e) in
                   let (b, q) = L.down d c p' in
-                  let z : cond (eqb c a) v 0 ≡ v = rw (eqb_yes c a e) in
+                  let z : cond (eqb c a) v 0 ≡ v = rw (eq-eqb c a e) in
                   let l = side_none a Left (W.daughter Left c) refl (omega arith) in
                   let r = side_none a Right (W.daughter Right c) refl (omega arith) in
                   let u = own_sides d b q p' in
                   omega arith
               | no m ↦
-                  let z : cond (eqb c a) v 0 ≡ 0 = rw (eqb_no c a m) in
+                  let z : cond (eqb c a) v 0 ≡ 0 = rw (ne_eqb c a m) in
                   let l = side_same d a Left (W.daughter Left c) refl p m in
                   let r = side_same d a Right (W.daughter Right c) refl p m in
                   omega arith

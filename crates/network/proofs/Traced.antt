@@ -1,5 +1,6 @@
 -- Each word in a channel is a word of a sent packet, on that packet's path.
-use Rattle.std.proofs.Common.{◌≡◌, ℕ, true, false, not, ◌&&◌, T, List, [], ◌∷◌, ◌++◌, sym, refl, ap, ◌∙◌, subst, ap₂, inl, inr, append-nil, arith}
+use Rattle.std.proofs.Common.{◌≡◌, ℕ, true, false, not, ◌&&◌, T, List, [], ◌∷◌, ◌++◌, sym, refl, ◌∙◌, subst, ap₂, inl, inr, append-nil, arith, append_assoc}
+use Rattle.std.proofs.lemmas.Bool.{and_parts, not-true}
 use mathlib.Core.Logic.{if_neg, if_pos}
 use Rattle.packet.specs.Routes.{advance}
 use Rattle.packet.specs.Packets.{is_head_word, is_tail_word}
@@ -10,7 +11,6 @@ use Rattle.station.specs.declared.channel.Channel.TheVariants.{DownLink, TurnLin
 use Rattle.network.specs.Arrivals.{Parcel}
 use Rattle.network.specs.Nodes.{Node, down_link_to, outs, target, up, up_link_of}
 use Rattle.network.specs.Paths.{Among, Passes, Step, begins, climbs, descends, goes, spreads, turns}
-use Rattle.network.proofs.Basics.{and_left, and_right, not_true}
 use Rattle.network.proofs.Channels.{channel_discrete}
 use Rattle.network.proofs.History.{ends, is_packet}
 use Rattle.network.proofs.HistoryLaws.{next_not}
@@ -70,10 +70,6 @@ pub among_last : (m : Parcel) (S : List Parcel) → Among m (S ++ (m ∷ []))
 among_last m [] = inl refl
 among_last m (k ∷ S) = inr (among_last m S)
 
-append_assoc : (a b c : List ℕ) → (a ++ b) ++ c ≡ a ++ (b ++ c)
-append_assoc [] b c = refl
-append_assoc (x ∷ a) b c = ap (λ (l : List ℕ). x ∷ l) (append_assoc a b c)
-
 module _ (W : Shape) where
   pub part_more : (S T : List Parcel) (n : Node) (l : List ℕ) → Part W S n l → Part W (S ++ T) n l
   part_more S T n l p =
@@ -109,19 +105,19 @@ module _ (W : Shape) where
     ends_traced q [] e z = tt
     ends_traced q (w ∷ []) e z = (at_sender (q ++ (w ∷ [])) [] (append-nil (q ++ (w ∷ [])) ∙ e), tt)
     ends_traced q (w ∷ v ∷ ws) e z =
-        let s = and_left (not (is_tail_word w) && not (is_head_word w)) (ends (v ∷ ws)) z in
-        let t : is_tail_word w ≡ false = not_true (is_tail_word w) (and_left _ (not (is_head_word w)) s) in
+        let s = (and_parts (not (is_tail_word w) && not (is_head_word w)) (ends (v ∷ ws)) z).0 in
+        let t : is_tail_word w ≡ false = not-true (is_tail_word w) (and_parts _ (not (is_head_word w)) s).0 in
         let f : (q ++ (w ∷ [])) ++ (v ∷ ws) ≡ h ∷ us = append_assoc q (w ∷ []) (v ∷ ws) ∙ e in
-        let r = ends_traced (q ++ (w ∷ [])) (v ∷ ws) f (and_right (not (is_tail_word w) && not (is_head_word w)) _ z) in
+        let r = ends_traced (q ++ (w ∷ [])) (v ∷ ws) f (and_parts (not (is_tail_word w) && not (is_head_word w)) _ z).1 in
         (at_sender (q ++ (w ∷ [])) (v ∷ ws) f, subst (λ (k : List ℕ). Traced W S (up c) k (v ∷ ws)) (sym (next_not q w t)) r)
 
   pub packet_traced : (S : List Parcel) (c : ℕ) (p : List ℕ) → Among (c, p) S → is_packet p ≡ true → Traced W S (up c) [] p
   unfolding is_packet
   packet_traced S c [] a e = absurd (grind arith)
   packet_traced S c (h ∷ us) a e =
-      let s = and_left (is_head_word h && not (is_tail_word h)) (ends us) e in
-      let t : is_tail_word h ≡ false = not_true (is_tail_word h) (and_right (is_head_word h) _ s) in
-      let r = ends_traced S c h us a (h ∷ []) us refl (and_right (is_head_word h && not (is_tail_word h)) _ e) in
+      let s = (and_parts (is_head_word h && not (is_tail_word h)) (ends us) e).0 in
+      let t : is_tail_word h ≡ false = not-true (is_tail_word h) (and_parts (is_head_word h) _ s).1 in
+      let r = ends_traced S c h us a (h ∷ []) us refl (and_parts (is_head_word h && not (is_tail_word h)) _ e).1 in
       (at_sender S c h us a (h ∷ []) us refl, subst (λ (k : List ℕ). Traced W S (up c) k us) (sym (next_not [] h t)) r)
 
   -- a part of a packet goes on with the packet

@@ -1,5 +1,6 @@
 -- The stations that a packet passes, by its route.
 use Rattle.std.proofs.Common.{◌≡◌, ℕ, zero, suc, ◌+◌, ◌-◌, ◌*◌, ◌<◌, ◌≤◌, Bool, true, false, cond, List, [], ◌∷◌, ◌++◌, Some, None, Option, sym, refl, ap, ◌∙◌, ap₂, arith}
+use Rattle.std.proofs.lemmas.Option.{some_pair_parts}
 use Rattle.packet.proofs.Moving.{floods-kept, stops-kept}
 use Rattle.packet.specs.Heads.{floods}
 use Rattle.packet.specs.Routes.{advance, side_of, stops, top_bit}
@@ -23,11 +24,6 @@ pub sum_over_same' : {A : Type 0} (f g : A → ℕ) (xs : List A) → ((a : A) �
 unfolding sum_over
 sum_over_same' f g [] e = refl
 sum_over_same' f g (x ∷ xs) e = let t = sum_over_same' f g xs e in let u = e x in omega arith
-
-some_pair : {a b c d : ℕ} → ◌≡◌ {A = Option (ℕ × ℕ)} (Some (a, b)) (Some (c, d)) → (a ≡ c) × (b ≡ d)
-some_pair {a} {b} {c} {d} e =
-    let q : ◌≡◌ {A = ℕ × ℕ} (a, b) (c, d) = cc in
-    (ap (λ (z : ℕ × ℕ). z.0) q, ap (λ (z : ℕ × ℕ). z.1) q)
 
 -- f looks at a head only as far as it stops and floods
 abbrev pub Alike : (Node → List ℕ → ℕ) → List ℕ → Type 0
@@ -62,7 +58,7 @@ module _ (W : Shape) (f : Node → List ℕ → ℕ) (ws : List ℕ) (a : Alike 
   pub further_is : (t : Trip) (n c : ℕ) → further t ≡ Some (n, c) → (m : ℕ) × (n ≡ suc m) × (t ≡ Some (m, c))
   unfolding further
   further_is None n c e = absurd (grind arith)
-  further_is (Some (m, d)) n c e = let (x, y) = some_pair e in (m, sym x, ap (λ (z : ℕ). Some (m, z)) y)
+  further_is (Some (m, d)) n c e = let (x, y) = some_pair_parts _ _ _ _ e in (m, sym x, ap (λ (z : ℕ). Some (m, z)) y)
 
   module _ (L : Rooted W) where
     subtree_stable : (k l c : ℕ) → c < W.cards → W.cards ≤ c + k → W.cards ≤ c + l → subtree W k c ≡ subtree W l c
@@ -130,5 +126,5 @@ module _ (W : Shape) (f : Node → List ℕ → ℕ) (ws : List ℕ) (a : Alike 
       where
         ways : (b : Bool) → stops h ≡ b → cond b (Some (0, c)) (go_on (λ d. trip W k (down d) (advance h)) (W.daughter (side_of (top_bit h)) c)) ≡ Some (n, t) → Rec v p g gs k h t →
             weight f W (suc k) (down c) (h ∷ ws) ≡ R v p g gs k h t n
-        ways true s e rec = let (x, y) = some_pair e in rw (← x) (stop_way v p g gs k h t c y cs r s fl)
+        ways true s e rec = let (x, y) = some_pair_parts _ _ _ _ e in rw (← x) (stop_way v p g gs k h t c y cs r s fl)
         ways false s e rec = rw s (down_way v p g gs k h t c n cs r rec s (side_of (top_bit h)) (W.daughter (side_of (top_bit h)) c) refl e)

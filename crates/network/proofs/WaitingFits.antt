@@ -1,5 +1,6 @@
 -- A waiting word fits its station: a fire where a word waits is never refused for want of one, and so merge takes the word's kind.
-use Rattle.std.proofs.Common.{◌≡◌, ℕ, Bool, true, false, cond, not, ◌&&◌, leb, ◌≢◌, List, [], ◌∷◌, ◌++◌, length, Some, None, Err, Result, sym, refl, ap, ◌∙◌, inl, inr, arith, lt→ltb}
+use Rattle.std.proofs.Common.{◌≡◌, ℕ, Bool, true, false, cond, not, ◌&&◌, leb, ◌≢◌, List, [], ◌∷◌, ◌++◌, length, Some, None, Err, Result, sym, refl, ap, ◌∙◌, inl, inr, arith, lt-ltb}
+use Rattle.std.proofs.lemmas.Bool.{and_parts}
 use Rattle.refusal.specs.declared.drive.FireFault.{FireFault}
 use Rattle.refusal.specs.declared.drive.FireFault.TheVariants.{HeldByOther, InboxFull, LinkOccupied, NothingWaits}
 use Rattle.packet.specs.Words.{kind_of}
@@ -19,7 +20,6 @@ use Rattle.network.specs.Fires.{Fired, and_then, carry, fire_step, hold_at, pass
 use Rattle.network.specs.Nodes.{Node, card_of, target}
 use Rattle.network.specs.Runs.{run}
 use Rattle.network.specs.Trees.{Before, Orderly, OrderlyLaw, held_for}
-use Rattle.network.proofs.Basics.{and_left, as_eq}
 use Rattle.network.proofs.Channels.{Rooted, rooted}
 use Rattle.network.proofs.Flow.{Flow, admits, all_clear, fits, is_empty, refusal, refusal_at, refusal_by, shape}
 use Rattle.network.proofs.History.{past}
@@ -71,7 +71,7 @@ module _ (W : Shape) (L : Rooted W) (P : Verdicts) (x : State) (y : Flow) (M : M
       ways : (l : List ℕ) → y.chan o ≡ l → oldest l ≡ Some w → refusal_by W P y o (y.chan o) ≡ Some NothingWaits → ⊥
       ways [] f e r = grind arith
       ways (v ∷ ws) f e r =
-          let g : fits (y.passed o) v ≡ true = and_left _ (shape (next (y.passed o) v) ws) (sym (ap (shape (y.passed o)) f) ∙ G.shaped o) in
+          let g : fits (y.passed o) v ≡ true = (and_parts _ (shape (next (y.passed o) v) ws) (sym (ap (shape (y.passed o)) f) ∙ G.shaped o)).0 in
           let z : refusal_by W P y o (v ∷ ws) ≡ Some NothingWaits = sym (ap (refusal_by W P y o) f) ∙ r in
           let s : Node = target W o in
           let q : List ℕ = y.passed o in
@@ -91,7 +91,7 @@ module _ (W : Shape) (L : Rooted W) (P : Verdicts) (x : State) (y : Flow) (M : M
 
     merges_not : merge (hold_at x c t) i w ≢ Err NothingWaits
     merges_not e =
-        let z : fire_step W P x c t i ≡ passing W P x c t i B.channel w = rw (as_eq _ (lt→ltb c W.cards B.there), B.from, B.oldest) in
+        let z : fire_step W P x c t i ≡ passing W P x c t i B.channel w = rw (lt-ltb c W.cards B.there, B.from, B.oldest) in
         let out : Result (Unit {0}) FireFault → Fired = λ m. and_then x m (λ _. carry x c t i B.channel w (planned W P c t (hold_at x c t) w)) in
         waits_not (ap (λ (a : Fired). a.answer) z ∙ ap (λ (m : Result (Unit {0}) FireFault). (out m).answer) e)
 

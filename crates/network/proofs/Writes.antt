@@ -126,10 +126,6 @@ unfolding all_clear reads holds number down_link_to
 down_taken_lem x None = refl
 down_taken_lem x (Some d) = empty_is (card_at x d).down_link ∙ sym (one-clear _)
 
-neither : (a b : Bool) → (not a || not b) ≡ not (a && b)
-neither true b = refl
-neither false b = refl
-
 pub link_taken_lem : (x : State) (c : ℕ) (p : Plan ℕ) → link_taken x c p ≡ not (all_clear (reads x) (links_of c p))
 unfolding links_of
 link_taken_lem x c p =
