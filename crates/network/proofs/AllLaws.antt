@@ -1,12 +1,11 @@
 -- The three laws, for every run of the machine.
-use Rattle.std.proofs.Common.{◌≡◌, ℕ, zero, suc, ◌+◌, ◌*◌, ◌<◌, Bool, true, false, cond, not, ◌&&◌, eqb, List, [], ◌∷◌, ◌++◌, length, Some, None, Ok, Option, Result, sym, refl, ap, ◌∙◌, ap₂, arith, eq-eqb, ne_eqb}
+use Rattle.std.proofs.Common.{◌≡◌, ℕ, zero, suc, ◌+◌, ◌*◌, ◌<◌, Bool, true, false, cond, ◌&&◌, eqb, List, [], ◌∷◌, ◌++◌, length, Some, None, Ok, Option, Result, sym, refl, ap, ◌∙◌, ap₂, arith, eq-eqb, ne_eqb}
 use Rattle.std.proofs.lemmas.Bool.{and_parts}
 use native.Mathlib.Decide.{ℕ_discrete}
 use Rattle.refusal.specs.declared.send.RouteFault.{RouteFault}
 use Rattle.packet.proofs.Moving.{stamp_tail}
 use Rattle.packet.specs.Heads.{floods, mode_of}
 use Rattle.packet.specs.Routes.{route_bits, ups_of}
-use Rattle.packet.specs.Packets.{is_head_word, is_tail_word}
 use Rattle.packet.specs.declared.heads.Mode.TheVariants.{Flood, Target}
 use Rattle.packet.specs.declared.sides.Side.{Side}
 use Rattle.wiring.specs.Shapes.{Shape}
@@ -31,7 +30,7 @@ use Rattle.network.proofs.UnderWay.{along, mark, rest}
 use Rattle.network.proofs.OwedLoad.{owed_load}
 use Rattle.network.proofs.Cutting.{count_all, joined_all, no_tail, parcels, whole_all}
 use Rattle.network.proofs.TripHops.{ones}
-use Rattle.network.proofs.HistoryLaws.{run_good}
+use Rattle.network.proofs.HistoryLaws.{run_good, ends_parts, packet_parts}
 use Rattle.network.proofs.Ready.{goes_on}
 use Rattle.network.proofs.Trip.{reached, subtree, trip_hops, trip_hops_by, way}
 use Rattle.network.proofs.Sendings.{Reads, reads-trip}
@@ -115,7 +114,7 @@ module _ (W : Shape) (L : Rooted W) where
 ends_last : (w : ℕ) (ws : List ℕ) → ends (w ∷ ws) ≡ true → last_tail (w ∷ ws) ≡ true
 unfolding ends last_tail
 ends_last w [] e = (and_parts _ _ e).0
-ends_last w (v ∷ ws) e = ends_last v ws (and_parts (not (is_tail_word w) && not (is_head_word w)) _ e).1
+ends_last w (v ∷ ws) e = ends_last v ws (ends_parts w v ws e).2
 
 marked_last : (k v : ℕ) (ws : List ℕ) → ends (k ∷ ws) ≡ true → last_tail (mark k (Class v) ++ ws) ≡ true
 unfolding mark last_tail
@@ -143,10 +142,10 @@ module _ (W : Shape) (L : Rooted W) (P : Verdicts) where
   brought_is : (d : ℕ) → d < W.cards → (l : List ℕ) (m : Parcel) → SentFrom W L m → brought W P d l m ≡ cond (arrives_as W P d l m) 1 0
   unfolding is_packet ends brought brought_by way arrives_as
   brought_is d hd l (c, []) s = absurd (let z = s.packet in grind arith)
-  brought_is d hd l (c, h ∷ []) s = absurd (let z = (and_parts (is_head_word h && not (is_tail_word h)) _ s.packet).1 in grind arith)
+  brought_is d hd l (c, h ∷ []) s = absurd (let z = (packet_parts h [] s.packet).2 in grind arith)
   brought_is d hd l (c, h ∷ k ∷ ws) s =
       let r = s.route h (k ∷ ws) refl in
-      let e = (and_parts (is_head_word h && not (is_tail_word h)) _ s.packet).1 in
+      let e = (packet_parts h (k ∷ ws) s.packet).2 in
       ap (brought_by W P d l (h ∷ k ∷ ws)) (reads-trip W L c h s.known r)
       ∙ reach_is W L c h s.known r d (whole_as l (as_arrived P d h (k ∷ ws))) hd
       ∙ ap (λ (n : ℕ). cond (reaches W c h d) n 0) (whole_is P d h k ws l e)

@@ -1,10 +1,10 @@
 -- A packet arrives once at each card that it reaches and that accepts it.
-use Rattle.std.proofs.Common.{◌≡◌, ℕ, ◌*◌, ◌<◌, Bool, true, false, cond, not, ◌&&◌, List, [], ◌∷◌, ◌++◌, Some, refl, ap, ◌∙◌, ap₂, inl, inr, append_assoc, append-nil, arith}
-use Rattle.std.proofs.lemmas.Bool.{and_parts, not-true}
+use Rattle.std.proofs.Common.{◌≡◌, ℕ, ◌*◌, ◌<◌, Bool, true, false, cond, List, [], ◌∷◌, ◌++◌, Some, refl, ap, ◌∙◌, ap₂, inl, inr, append_assoc, append-nil, arith}
+use Rattle.network.proofs.Basics.{next_not}
 use mathlib.Core.Logic.{if_neg, if_pos, ite}
 use Rattle.packet.specs.Heads.{floods}
 use Rattle.packet.specs.Routes.{stops}
-use Rattle.packet.specs.Packets.{is_head_word, is_tail_word}
+use Rattle.packet.specs.Packets.{is_tail_word}
 use Rattle.wiring.specs.Shapes.{Shape}
 use Rattle.station.specs.Plans.{Verdicts, accepted}
 use Rattle.network.specs.Nodes.{Node, card_of, down, up}
@@ -14,7 +14,7 @@ use Rattle.network.proofs.Delivery.{Brings, arrival-append, delivered, none_befo
 use Rattle.network.proofs.History.{arrival, arrives, ends, hops, is_packet, last_tail, whole_as}
 use Rattle.network.proofs.UnderWay.{along, delivers, waiting, weight}
 use Rattle.network.proofs.TripHops.{stop_flood, stop_stops, stop_head}
-use Rattle.network.proofs.HistoryLaws.{next_not}
+use Rattle.network.proofs.HistoryLaws.{ends_parts, packet_parts}
 use Rattle.network.proofs.Trip.{reached, subtree, trip}
 use Rattle.network.proofs.TripWeights.{trip-weight}
 use Rattle.network.proofs.Ranks.{rank}
@@ -71,9 +71,8 @@ unfolding along ends
 along_last g h e q [] p = absurd (grind arith)
 along_last g h e q (w ∷ []) p = omega arith
 along_last g h e q (w ∷ x ∷ ws) p =
-    let s = (and_parts (not (is_tail_word w) && not (is_head_word w)) (ends (x ∷ ws)) p).0 in
-    let t : is_tail_word w ≡ false = not-true (is_tail_word w) (and_parts _ (not (is_head_word w)) s).0 in
-    let r = along_last g h e (q ++ (w ∷ [])) (x ∷ ws) (and_parts (not (is_tail_word w) && not (is_head_word w)) _ p).1 in
+    let (t, n, f) = ends_parts w x ws p in
+    let r = along_last g h e (q ++ (w ∷ [])) (x ∷ ws) f in
     let a = e q w t in
     let b : g (h ∷ (q ++ (w ∷ []) ++ (x ∷ ws))) ≡ g (h ∷ (q ++ (w ∷ x ∷ ws))) = simp append_assoc in
     rw (next_not (h ∷ q) w t) (omega arith)
@@ -118,9 +117,8 @@ module _ (W : Shape) (L : Rooted W) (P : Verdicts) (d : ℕ) (l : List ℕ) wher
         hops (arrives P d l) W (c, h ∷ ws) ≡ sum_over (reached W h t) (λ e. arrives P d l (down e) (stop_head h ∷ ws))
     unfolding hops waiting along is_packet reached
     arrivals ws hp =
-        let s = (and_parts (is_head_word h && not (is_tail_word h)) (ends ws) hp).0 in
-        let nt : is_tail_word h ≡ false = not-true (is_tail_word h) (and_parts (is_head_word h) _ s).1 in
-        let r = along_last (weight (arrives P d l) W (2 * W.cards) (up c)) h zero_at [] ws (and_parts (is_head_word h && not (is_tail_word h)) _ hp).1 in
+        let (i, nt, f) = packet_parts h ws hp in
+        let r = along_last (weight (arrives P d l) W (2 * W.cards) (up c)) h zero_at [] ws f in
         let z = zero_head in
         let u : sum_over (reached W (stop_head h) t) (λ e. arrives P d l (down e) (stop_head h ∷ ws)) ≡ sum_over (reached W h t) (λ e. arrives P d l (down e) (stop_head h ∷ ws)) =
         ap (λ (b : Bool). sum_over (cond b (subtree W W.cards t) (t ∷ [])) (λ e. arrives P d l (down e) (stop_head h ∷ ws))) (stop_flood h) in

@@ -1,5 +1,6 @@
 -- A function changed at one place, and sums.
-use Rattle.std.proofs.Common.{◌≡◌, ℕ, zero, suc, ◌+◌, ◌<◌, ◌≤◌, true, ◌≢◌, List, [], ◌∷◌, ◌++◌, sym, refl, ap, ◌∙◌, not-suc-le-zero, arith}
+use Rattle.std.proofs.Common.{◌≡◌, ℕ, zero, suc, ◌+◌, ◌<◌, ◌≤◌, true, ◌≢◌, List, [], ◌∷◌, ◌++◌, sym, refl, ap, ◌∙◌, not-suc-le-zero, arith, false}
+use Rattle.packet.specs.Packets.{is_tail_word}
 use Rattle.std.proofs.lemmas.Bool.{and_parts, and_from}
 use mathlib.Core.Logic.{if_neg, if_pos}
 use native.Mathlib.Decide.{dec_lt, ℕ_discrete}
@@ -37,6 +38,15 @@ sum_to-at (suc n) c f g h e =
       | yes p ↦ rw p (let t = sum_to_same n f g (λ j l. e j (omega arith)) in omega arith)
       | no np ↦ let t = sum_to-at n c f g (omega arith) e in let u = e n (λ p. np (sym p)) in omega arith
     ]
+
+-- the words of the packet so far, by whether w is its tail
+pub next_not : (q : List ℕ) (w : ℕ) → is_tail_word w ≡ false → next q w ≡ q ++ (w ∷ [])
+unfolding next
+next_not q w e = rw e
+
+pub next_end : (q : List ℕ) (w : ℕ) → is_tail_word w ≡ true → next q w ≡ []
+unfolding next
+next_end q w e = rw e
 
 pub rest_push : (q ws : List ℕ) (w : ℕ) → rest q (ws ++ (w ∷ [])) ≡ next (rest q ws) w
 unfolding rest

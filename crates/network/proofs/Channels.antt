@@ -1,5 +1,6 @@
 -- Channels and stations can be told apart, and what a lawful wiring says of a card and the card above it.
-use Rattle.std.proofs.Common.{◌≡◌, ℕ, ◌<◌, ◌≤◌, Bool, true, false, ◌&&◌, eqb, Some, None, Option, sym, refl, ap, ◌∙◌, arith, eq-eqb, eqb-true}
+use Rattle.std.proofs.Common.{◌≡◌, ℕ, ◌<◌, ◌≤◌, true, eqb, Some, None, Option, sym, refl, ap, ◌∙◌, arith, eq-eqb, eqb-true}
+use Rattle.std.proofs.lemmas.Bool.{and_parts}
 use native.Mathlib.Decide.{ℕ_discrete}
 use Rattle.packet.specs.declared.sides.Side.{Side}
 use Rattle.packet.specs.declared.sides.Side.TheVariants.{Left, Right}
@@ -42,15 +43,8 @@ node_discrete = node-discrete' ℕ_discrete
 pub same_channel_is : (o p : Channel) → same_channel o p ≡ true → o ≡ p
 unfolding same_channel
 same_channel_is o p e =
-    same o p (eqb-true (tag o) (tag p) (both_left _ _ e)) (eqb-true (number o) (number p) (both_right (eqb (tag o) (tag p)) _ e))
-  where
-    both_left : (a b : Bool) → a && b ≡ true → a ≡ true
-    both_left true b e = refl
-    both_left false b e = e
-
-    both_right : (a b : Bool) → a && b ≡ true → b ≡ true
-    both_right true b e = e
-    both_right false b e = absurd (grind arith)
+    let (t, n) = and_parts (eqb (tag o) (tag p)) _ e in
+    same o p (eqb-true (tag o) (tag p) t) (eqb-true (number o) (number p) n)
 
 pub same_channel_self : (o : Channel) → same_channel o o ≡ true
 unfolding same_channel

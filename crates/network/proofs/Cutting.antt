@@ -1,12 +1,12 @@
 -- Words in which every packet is ended are a list of whole arrivals.
 use Rattle.std.proofs.Common.{◌≡◌, ℕ, ◌+◌, Bool, true, false, cond, not, ◌&&◌, List, [], ◌∷◌, ◌++◌, sym, refl, ap, ◌∙◌, append_assoc, append-nil, arith}
+use Rattle.network.proofs.Basics.{next_end, next_not}
 use Rattle.std.proofs.lemmas.Bool.{and_from}
 use Rattle.packet.specs.Packets.{is_tail_word}
 use Rattle.network.specs.Arrivals.{all_whole, is_whole}
 use Rattle.network.specs.Sums.{count, joined, same_words, sum_over}
 use Rattle.network.proofs.History.{last_tail, whole_as}
 use Rattle.network.proofs.UnderWay.{along, next, rest}
-use Rattle.network.proofs.HistoryLaws.{next_end, next_not}
 
 -- the words cut after each tail, q those before the first word
 unfoldable pub parcels : List ℕ → List ℕ → List (List ℕ)

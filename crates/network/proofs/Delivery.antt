@@ -13,12 +13,12 @@ use Rattle.station.specs.Plans.{Verdicts, accepted}
 use Rattle.station.specs.declared.channel.Channel.{Channel}
 use Rattle.network.specs.Nodes.{Node, card_of, down, number, target, up}
 use Rattle.network.specs.Sums.{sum_over}
-use Rattle.network.proofs.Basics.{along_push, put-eq, put_other, rest_push, sum_none, sum-part}
+use Rattle.network.proofs.Basics.{along_push, put-eq, put_other, rest_push, sum_none, sum-part, next_not}
 use Rattle.network.proofs.Channels.{Rooted, node_discrete}
 use Rattle.network.proofs.Flow.{Flow, fired, holder, load, pass, refusal, refusal_by}
 use Rattle.network.proofs.History.{HistoryDelivery, Event, History, arrival, arrives, happens, hops, is_none, is_packet, last_tail, moving, one, past, queued, queueing, resting, sendable, step_fire, step_send, taking, took_by, whole_as, words}
 use Rattle.network.proofs.UnderWay.{along, delivers, mark, next, plain, put, rest, waiting, weight}
-use Rattle.network.proofs.Preserve.{holder_tail, next_tail, passed-at, passed_out, source_at, source_out}
+use Rattle.network.proofs.Preserve.{holder_tail, passed-at, passed_out, source_at, source_out}
 use Rattle.network.proofs.Progress.{down_held, front}
 use Rattle.network.proofs.HistoryLaws.{Good, Granted, empty-load, fire_is, fired-load, queued-load, run_good, sendable_is, took_load}
 use Rattle.network.proofs.TripWeights.{sum_over-append}
@@ -156,7 +156,7 @@ module _ (W : Shape) (L : Rooted W) (P : Verdicts) where
         ways : (b : Bool) → is_tail_word w ≡ b → cond (is_tail_word w) [] (arrival P s [] (q ++ (w ∷ []))) ≡ part_by P x' d (holder i w)
         ways true e = rw (holder_tail i w true e, e)
         ways false e =
-            let m : x'.passed i ≡ q ++ (w ∷ []) = passed-at W L P x G.inv i w g.ws hn g.front g.takes ∙ next_tail q w false e in
+            let m : x'.passed i ≡ q ++ (w ∷ []) = passed-at W L P x G.inv i w g.ws hn g.front g.takes ∙ next_not q w e in
             ap (λ (b : Bool). cond b [] (arrival P s [] (q ++ (w ∷ [])))) e ∙ ap (λ (t : Node). arrival P t [] (q ++ (w ∷ []))) p ∙ sym (ap (part_by P x' d) (holder_tail i w false e) ∙ ap (arrival P (down d) []) m)
 
     still : (d : ℕ) → s ≢ down d → part_by P x d (x.source (down d)) ≡ part_by P x' d (x'.source (down d))

@@ -1,5 +1,7 @@
 -- The hops and the deliveries of a history, in the terms of routes.
 use Rattle.std.proofs.Common.{◌≡◌, ℕ, ◌*◌, Bool, true, false, cond, ◌&&◌, T, eqb, ltb, ◌≢◌, List, [], ◌∷◌, ◌++◌, Some, None, sym, refl, ap, ◌∙◌, arith, eqb-true}
+use Rattle.network.specs.Sums.{sum_over}
+use mathlib.Core.Path.{fun_ext}
 use lib.Dec.{eqb_refl}
 use mathlib.Core.Logic.{if_neg, if_pos}
 use Rattle.packet.specs.Heads.{floods}
@@ -18,7 +20,6 @@ use Rattle.network.proofs.UnderWay.{delivers, mark, plain}
 use Rattle.network.proofs.TripHops.{path_hops_lem, stop_flood, stop_stops, stop_head}
 use Rattle.network.proofs.HistoryLaws.{hops_law, sendable_is}
 use Rattle.network.proofs.Trip.{Trip, is_way, reached, trip, trip_hops, trip_hops_by, way}
-use Rattle.network.proofs.TripWeights.{sum_over_same'}
 use Rattle.network.proofs.Sendings.{IsSent, sent_way}
 use Rattle.network.proofs.Outputs.{All, all_append, all_map, sum_over_same}
 
@@ -114,7 +115,7 @@ brings W L P d l (c, h ∷ ws) s = ways (trip W (2 * W.cards) (up c) h) refl (se
     ways : (t : Trip) → trip W (2 * W.cards) (up c) h ≡ t → is_way t ≡ true → hops (arrives P d l) W (c, h ∷ ws) ≡ brought_by W P d l (h ∷ ws) t
     ways None e p = absurd (grind arith)
     ways (Some (n, t)) e p =
-        arrivals W L P d l c h n t s.known e ws s.packet ∙ sum_over_same' (λ e. arrives P d l (down e) (stop_head h ∷ ws)) (λ e. cond (eqb e d) (whole_as l (as_arrived P d h ws)) 0) (reached W h t) (λ e. at_card P d e h l ws)
+        arrivals W L P d l c h n t s.known e ws s.packet ∙ ap (sum_over (reached W h t)) (fun_ext (λ e. at_card P d e h l ws))
 
 pub exact_law : HistoryExact
 exact_law W L P ks z d =

@@ -11,13 +11,13 @@ use Rattle.station.specs.declared.channel.Channel.{Channel}
 use Rattle.station.specs.declared.channel.Channel.TheVariants.{Queued}
 use Rattle.network.specs.Nodes.{Node, number, target, up}
 use Rattle.network.specs.Sums.{sum_over}
-use Rattle.network.proofs.Basics.{along-append, put_other, put_same, rest-append, shape-append, sum_none, sum_some, sum_channels-at}
+use Rattle.network.proofs.Basics.{along-append, put_other, put_same, rest-append, shape-append, sum_none, sum_some, sum_channels-at, next_end, next_not}
 use Rattle.network.proofs.Channels.{Rooted, channel_discrete}
 use Rattle.network.proofs.Conserve.{Distinct, pass-load}
 use Rattle.network.proofs.Flow.{Flow, admits, fired, fired_by, fits, is_empty, load, pass, refusal, refusal_at, refusal_by, shape}
 use Rattle.network.proofs.History.{Event, History, HistoryHops, HistoryProgress, ends, happens, hops, is_none, is_packet, moving, none_yet, one, past, queued, queueing, resting, sendable, step_fire, step_send, taking, took_by}
 use Rattle.network.proofs.Invariant.{Inv, feeder, sending, sending_from}
-use Rattle.network.proofs.UnderWay.{along, next, outs_of, rest, waiting}
+use Rattle.network.proofs.UnderWay.{along, outs_of, rest, waiting}
 use Rattle.network.proofs.Preserve.{all_send, inv_kept, known', shaped'}
 use Rattle.network.proofs.Progress.{full}
 use Rattle.network.proofs.TripWeights.{sum_over-append}
@@ -29,33 +29,37 @@ pub record Good (W : Shape) (x : Flow) : Type 0 where
   pub shaped : (o : Channel) → shape (x.passed o) (x.chan o) ≡ true
   pub known : (o : Channel) (w : ℕ) (ws : List ℕ) → x.chan o ≡ w ∷ ws → number o < W.cards
 
--- a packet is whole
-pub next_not : (q : List ℕ) (w : ℕ) → is_tail_word w ≡ false → next q w ≡ q ++ (w ∷ [])
-unfolding next
-next_not q w e = rw e
+-- a body with the words after it, and a head with the words after it
+pub ends_parts : (w v : ℕ) (ws : List ℕ) → ends (w ∷ v ∷ ws) ≡ true → (is_tail_word w ≡ false) × (not (is_head_word w) ≡ true) × (ends (v ∷ ws) ≡ true)
+unfolding ends
+ends_parts w v ws e =
+    let (s, r) = and_parts (not (is_tail_word w) && not (is_head_word w)) _ e in
+    let (t, h) = and_parts (not (is_tail_word w)) _ s in
+    (not-true _ t, h, r)
 
-pub next_end : (q : List ℕ) (w : ℕ) → is_tail_word w ≡ true → next q w ≡ []
-unfolding next
-next_end q w e = rw e
+pub packet_parts : (h : ℕ) (ws : List ℕ) → is_packet (h ∷ ws) ≡ true → (is_head_word h ≡ true) × (is_tail_word h ≡ false) × (ends ws ≡ true)
+unfolding is_packet
+packet_parts h ws e =
+    let (s, r) = and_parts (is_head_word h && not (is_tail_word h)) _ e in
+    let (i, t) = and_parts (is_head_word h) _ s in
+    (i, not-true _ t, r)
 
 ends-rest : (h : ℕ) (q ws : List ℕ) → ends ws ≡ true → (rest (h ∷ q) ws ≡ []) × (shape (h ∷ q) ws ≡ true)
 unfolding ends rest shape fits
 ends-rest h q [] e = absurd (grind arith)
 ends-rest h q (w ∷ []) e = (next_end (h ∷ q) w (and_parts _ _ e).0, and_from _ _ (and_parts (is_tail_word w) _ e).1 refl)
 ends-rest h q (w ∷ v ∷ ws) e =
-    let s = (and_parts (not (is_tail_word w) && not (is_head_word w)) (ends (v ∷ ws)) e).0 in
-    let t : is_tail_word w ≡ false = not-true (is_tail_word w) (and_parts _ (not (is_head_word w)) s).0 in
-    let r = ends-rest h (q ++ (w ∷ [])) (v ∷ ws) (and_parts (not (is_tail_word w) && not (is_head_word w)) _ e).1 in
-    rw (next_not (h ∷ q) w t) (r.0, and_from _ _ (and_parts (not (is_tail_word w)) _ s).1 r.1)
+    let (t, n, f) = ends_parts w v ws e in
+    let r = ends-rest h (q ++ (w ∷ [])) (v ∷ ws) f in
+    rw (next_not (h ∷ q) w t) (r.0, and_from _ _ n r.1)
 
 pub packet_rest : (p : List ℕ) → is_packet p ≡ true → (rest [] p ≡ []) × (shape [] p ≡ true)
 unfolding is_packet rest shape fits
 packet_rest [] e = absurd (grind arith)
 packet_rest (h ∷ ws) e =
-    let s = (and_parts (is_head_word h && not (is_tail_word h)) (ends ws) e).0 in
-    let t : is_tail_word h ≡ false = not-true (is_tail_word h) (and_parts (is_head_word h) _ s).1 in
-    let r = ends-rest h [] ws (and_parts (is_head_word h && not (is_tail_word h)) _ e).1 in
-    rw (next_not [] h t) (r.0, and_from _ _ (and_parts _ (not (is_tail_word h)) s).0 r.1)
+    let (i, t, f) = packet_parts h ws e in
+    let r = ends-rest h [] ws f in
+    rw (next_not [] h t) (r.0, and_from _ _ i r.1)
 
 module _ (W : Shape) (L : Rooted W) (P : Verdicts) where
   -- send

@@ -20,7 +20,7 @@ use Rattle.network.specs.Cards.{State, inbox_room, oldest}
 use Rattle.network.specs.Fires.{Fired, and_then, carried, carry, clear, consumed, kept, passed, passing, waiting_at, waits_by, written}
 use Rattle.network.specs.Nodes.{Node, card_of, input_of, number, station_of, target}
 use Rattle.network.specs.Owed.{hold_of, reads}
-use Rattle.network.proofs.Basics.{put_other, put_same}
+use Rattle.network.proofs.Basics.{put_other, put_same, next_end}
 use Rattle.network.proofs.Channels.{Rooted, channel_discrete, node_discrete}
 use Rattle.network.proofs.Delivery.{Brings, delivered}
 use Rattle.network.proofs.Flow.{Flow, admits, all_clear, fired, fired_by, fits, holder, is_empty, pass, push_all, refusal, refusal_at, refusal_by, shape}
@@ -29,7 +29,7 @@ use Rattle.network.proofs.UnderWay.{delivers, leaves, next, outs_of, put}
 use Rattle.network.proofs.StationParts.{delivers_by, hold_after, leaves_by, outs_by}
 use Rattle.network.proofs.Phases.{delivers-phase, hold_phase, leaves-phase, outs-phase, phase}
 use Rattle.network.proofs.Planned.{kept_words, links_of, merge_by_lem, merge-head, merge-later, merge_by, plan_after, plan-kept, plan_links, plan_word}
-use Rattle.network.proofs.Preserve.{all_send, holder_tail, next_tail, passed-at, passed_out, source_at, source_out}
+use Rattle.network.proofs.Preserve.{all_send, holder_tail, passed-at, passed_out, source_at, source_out}
 use Rattle.network.proofs.HistoryLaws.{Good, admitted, outs_of_distinct}
 use Rattle.network.proofs.Stands.{after_map, delivers-map, held_for, held_for-map, leaves_map, map_hold, map_option, outs-map, phase_for, stands, stands_by}
 use Rattle.network.proofs.Table.{boxed_hold, boxed_inbox, boxed-length, boxed-reads, inbox_at, pour, pour_hold, pour_inbox, pour-length, pour_other, pour-rest, stand, stand_inbox, stand-length, stand_other, stand-reads, stand_same, write_all, writes, writes_keep}
@@ -53,7 +53,7 @@ unfolding fits is_empty
 fits-later [] w e f = absurd (grind arith)
 fits-later (h ∷ q) w e f = not-true (is_head_word w) f
 
-clear_all : (f : Channel → List ℕ) (os : List Channel) → all_clear f os ≡ true → All (λ o. f o ≡ []) os
+pub clear_all : (f : Channel → List ℕ) (os : List Channel) → all_clear f os ≡ true → All (λ o. f o ≡ []) os
 unfolding all_clear is_empty
 clear_all f [] e = tt
 clear_all f (o ∷ os) e = (nil (f o) (and_parts _ _ e).0, clear_all f os (and_parts (is_empty (f o)) _ e).1)
@@ -263,7 +263,7 @@ module _
           ap (stands_by P s y'.passed) (source_at W L P y G.inv o w ws hn front takes) ∙ ways (is_tail_word w) refl
         where
           ways : (b : Bool) → is_tail_word w ≡ b → stands_by P s y'.passed (holder o w) ≡ phase P s o (next q w)
-          ways true e = ap (stands_by P s y'.passed) (holder_tail o w true e) ∙ sym (ap (phase P s o) (next_tail q w true e))
+          ways true e = ap (stands_by P s y'.passed) (holder_tail o w true e) ∙ sym (ap (phase P s o) (next_end q w e))
           ways false e = ap (stands_by P s y'.passed) (holder_tail o w false e) ∙ ap (phase P s o) (passed-at W L P y G.inv o w ws hn front takes)
 
       stands_there : (t : Node) → t ≢ s → stands P y' t ≡ stands P y t

@@ -1,6 +1,5 @@
 -- A granted fire moves one word of a sent packet one station on along the packet's path.
 use Rattle.std.proofs.Common.{◌≡◌, ℕ, ◌<◌, Bool, true, false, cond, not, ◌&&◌, ltb, List, [], ◌∷◌, ◌++◌, length, get_or, Some, None, Ok, Err, Option, sym, refl, ap, ◌∙◌, subst, ap₂, inl, inr, arith, length-append, ltb-true}
-use Rattle.std.proofs.lemmas.Bool.{and_parts}
 use Rattle.refusal.specs.declared.drive.FireFault.{FireFault}
 use Rattle.refusal.specs.declared.drive.FireFault.TheVariants.{HeldByOther, LinkOccupied, NoCard, NoInput, NothingWaits}
 use Rattle.packet.specs.Routes.{advance}
@@ -20,14 +19,14 @@ use Rattle.network.specs.Owed.{reads}
 use Rattle.network.proofs.Basics.{put_other, put_same}
 use Rattle.network.proofs.Channels.{Rooted, channel_discrete, rooted}
 use Rattle.network.proofs.Conserve.{SendsInto, moved_push}
-use Rattle.network.proofs.Flow.{Flow, admits, all_clear, fired, fits, is_empty, pass, refusal, refusal_at, refusal_by}
+use Rattle.network.proofs.Flow.{Flow, admits, all_clear, fired, fits, pass, refusal, refusal_at, refusal_by}
 use Rattle.network.proofs.History.{Event, History, happens, is_none, is_packet, moving, past, queued, queueing, resting, sendable, step_fire, step_send, taking, took_by}
 use Rattle.network.proofs.HistoryLaws.{Good, Granted, fire_is, granted, outs_of_distinct, run_good, sendable_is}
 use Rattle.network.proofs.Invariant.{all_elem, elem, elem_other, feeder, push_all_in, push_all_out, sending}
 use Rattle.network.proofs.Inputs.{input_known}
-use Rattle.network.proofs.Match.{Beside}
+use Rattle.network.proofs.Match.{Beside, clear_all}
 use Rattle.network.proofs.Preserve.{all_send, chan_out, passed-at, passed_out}
-use Rattle.network.proofs.Outputs.{outs_step, All, all_map}
+use Rattle.network.proofs.Outputs.{outs_step, all_map}
 use Rattle.network.proofs.Simulate.{History-of, fire_beside, follows, node_card}
 use Rattle.network.proofs.Traced.{Part, Traced, among_last, packet_traced, part_on, step_elem, traced_append, traced_more}
 use Rattle.network.proofs.UnderWay.{leaves, moved, outs_of, rest}
@@ -70,16 +69,7 @@ outs_comes W n (h ∷ q) w others g later e = let a : h ≡ g = cc in ap (outs W
 
 -- the outputs of a granted fire were empty
 clear_at : (f : Channel → List ℕ) (os : List Channel) (o : Channel) → all_clear f os ≡ true → elem o os ≡ true → f o ≡ []
-unfolding all_clear is_empty
-clear_at f os o a e = all_elem (λ o. f o ≡ []) o os (all os a) e
-  where
-    nil : (l : List ℕ) → is_empty l ≡ true → l ≡ []
-    nil [] z = refl
-    nil (w ∷ ws) z = absurd (grind arith)
-
-    all : (os : List Channel) → all_clear f os ≡ true → All (λ o. f o ≡ []) os
-    all [] a = tt
-    all (p ∷ os) a = (nil (f p) (and_parts _ _ a).0, all os (and_parts (is_empty (f p)) _ a).1)
+clear_at f os o a e = all_elem (λ o. f o ≡ []) o os (clear_all f os a) e
 
 third : (a b c : Bool) (r s t : FireFault) (k : Option FireFault) → cond (not a) (Some r) (cond (not b) (Some s) (cond (not c) (Some t) k)) ≡ None → c ≡ true
 third true true true r s t k e = refl

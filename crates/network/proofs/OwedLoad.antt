@@ -1,5 +1,6 @@
 -- Hops owed, read off the state, are the load of the network with history.
 use Rattle.std.proofs.Common.{◌≡◌, ℕ, zero, suc, ◌+◌, ◌*◌, Bool, true, false, cond, not, ◌≢◌, ◌⊎◌, List, [], ◌∷◌, ◌++◌, Some, None, Option, sym, refl, ap, ◌∙◌, ap₂, inl, inr, arith}
+use mathlib.Core.Path.{fun_ext}
 use Rattle.std.proofs.lemmas.Bool.{and_parts, not-true}
 use Rattle.packet.proofs.Moving.{head_not_tail}
 use Rattle.packet.specs.Routes.{advance, stops}
@@ -16,8 +17,8 @@ use Rattle.station.specs.declared.hold.Input.{Input}
 use Rattle.network.specs.Cards.{State, oldest}
 use Rattle.network.specs.Nodes.{Node, down, input_of, outs, same_channel, target, up}
 use Rattle.network.specs.Owed.{ahead, by_head, head_by, hold_of, hops_owed, is_channel, owed_for, owed_in}
-use Rattle.network.specs.Sums.{sum_channels}
-use Rattle.network.proofs.Basics.{sum_to_same}
+use Rattle.network.specs.Sums.{sum_channels, sum_over}
+use Rattle.network.proofs.Basics.{sum_to_same, next_end, next_not}
 use Rattle.network.proofs.Channels.{channel_discrete, same_channel_is, same_channel_self}
 use Rattle.network.proofs.Flow.{Flow, fits, load, shape}
 use Rattle.network.proofs.History.{one}
@@ -25,8 +26,7 @@ use Rattle.network.proofs.Match.{Matches}
 use Rattle.network.proofs.UnderWay.{along, moved, next, outs_of, waiting, weight}
 use Rattle.network.proofs.StationParts.{of_verdict}
 use Rattle.network.proofs.Phases.{phase}
-use Rattle.network.proofs.HistoryLaws.{Good, next_end, next_not}
-use Rattle.network.proofs.TripWeights.{sum_over_same'}
+use Rattle.network.proofs.HistoryLaws.{Good}
 use Rattle.network.proofs.Stands.{map_hold, stands, stands_by}
 
 -- the weight of a word goes by its packet's head
@@ -34,7 +34,7 @@ weight-ahead : (W : Shape) (k : ℕ) (s : Node) (h : ℕ) (q : List ℕ) → wei
 unfolding weight ahead outs_of moved
 weight-ahead W zero s h q = refl
 weight-ahead W (suc k) s h q =
-    ap (λ (n : ℕ). 1 + n) (sum_over_same' (λ o. weight one W k (target W o) (advance h ∷ q)) (λ o. ahead W k (target W o) (advance h)) (outs W s h) (λ o. weight-ahead W k (target W o) (advance h) q))
+    ap (λ (n : ℕ). 1 + n) (ap (sum_over (outs W s h)) (fun_ext (λ o. weight-ahead W k (target W o) (advance h) q)))
 
 -- the words that wait at a station, by the last head
 abbrev GoesBy : List ℕ → Option ℕ → Type 0

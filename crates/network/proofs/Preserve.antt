@@ -6,7 +6,7 @@ use Rattle.wiring.specs.Shapes.{Shape}
 use Rattle.station.specs.Plans.{Verdicts}
 use Rattle.station.specs.declared.channel.Channel.{Channel}
 use Rattle.network.specs.Nodes.{Node, number, target}
-use Rattle.network.proofs.Basics.{put_other, put_same, rest_push, shape-append}
+use Rattle.network.proofs.Basics.{put_other, put_same, rest_push, shape-append, next_end, next_not}
 use Rattle.network.proofs.Channels.{Rooted, channel_discrete, node_discrete}
 use Rattle.network.proofs.Conserve.{Distinct, SendsInto}
 use Rattle.network.proofs.Flow.{Flow, fits, holder, is_empty, pass, shape}
@@ -24,10 +24,6 @@ nil_either false r e = refl
 pub holder_tail : (i : Channel) (w : ℕ) (b : Bool) → is_tail_word w ≡ b → holder i w ≡ cond b None (Some i)
 unfolding holder
 holder_tail i w b e = rw e
-
-pub next_tail : (q : List ℕ) (w : ℕ) (b : Bool) → is_tail_word w ≡ b → next q w ≡ cond b [] (q ++ (w ∷ []))
-unfolding next
-next_tail q w b e = rw e
 
 -- the station of i takes its next word
 module _
@@ -69,9 +65,9 @@ module _
   now o = rw put_same (ways (is_tail_word w) refl)
     where
       ways : (b : Bool) → is_tail_word w ≡ b → sending_from W x' o s (holder i w) ≡ cond (elem o os) (moved (next q w)) []
-      ways true e = rw (holder_tail i w true e, next_tail q w true e) (nil_either (elem o os) [] refl)
+      ways true e = rw (holder_tail i w true e, next_end q w e) (nil_either (elem o os) [] refl)
       ways false e =
-          rw (holder_tail i w false e, next_tail q w false e) (simp put_same)
+          rw (holder_tail i w false e, next_not q w e) (simp put_same)
 
   -- another station sends as before
   same : (o : Channel) (t : Node) → t ≢ s → sending_from W x' o t (x'.source t) ≡ sending_from W x o t (x.source t)
@@ -168,7 +164,7 @@ module _
       ]
     where
       ended : (b : Bool) → is_tail_word w ≡ b → holder i w ≢ Some i → next q w ≡ []
-      ended true e m = next_tail q w true e
+      ended true e m = next_end q w e
       ended false e m = absurd (m (holder_tail i w false e))
 
       still : j ≢ i → Dec (target W j ≡ s) → x.source (target W j) ≢ Some j
@@ -201,7 +197,7 @@ module _
   begun' : (t : Node) (j : Channel) → x'.source t ≡ Some j → is_empty (x'.passed j) ≡ false
   begun' t j e =
       elim (node_discrete t s) [
-        | yes p ↦ let u = holds j (sym source_at ∙ ap x'.source (sym p) ∙ e) in rw (u.0, passed-at, next_tail q w false u.1) (nonempty q)
+        | yes p ↦ let u = holds j (sym source_at ∙ ap x'.source (sym p) ∙ e) in rw (u.0, passed-at, next_not q w u.1) (nonempty q)
         | no n ↦ let h = I.home t j (sym (source_out t n) ∙ e) in rw (passed_out j (λ p. n (sym h ∙ ap (target W) p))) (I.begun t j (sym (source_out t n) ∙ e))
       ]
 

@@ -1,9 +1,8 @@
 -- Each word in a channel is a word of a sent packet, on that packet's path.
-use Rattle.std.proofs.Common.{◌≡◌, ℕ, true, false, not, ◌&&◌, T, List, [], ◌∷◌, ◌++◌, sym, refl, ◌∙◌, subst, ap₂, inl, inr, append-nil, arith, append_assoc}
-use Rattle.std.proofs.lemmas.Bool.{and_parts, not-true}
+use Rattle.std.proofs.Common.{◌≡◌, ℕ, true, T, List, [], ◌∷◌, ◌++◌, sym, refl, ◌∙◌, subst, ap₂, inl, inr, append-nil, arith, append_assoc}
+use Rattle.network.proofs.Basics.{next_not}
 use mathlib.Core.Logic.{if_neg, if_pos}
 use Rattle.packet.specs.Routes.{advance}
-use Rattle.packet.specs.Packets.{is_head_word, is_tail_word}
 use Rattle.packet.specs.declared.sides.Side.TheVariants.{Left, Right}
 use Rattle.wiring.specs.Shapes.{Shape}
 use Rattle.station.specs.declared.channel.Channel.{Channel}
@@ -13,7 +12,7 @@ use Rattle.network.specs.Nodes.{Node, down_link_to, outs, target, up, up_link_of
 use Rattle.network.specs.Paths.{Among, Passes, Step, begins, climbs, descends, goes, spreads, turns}
 use Rattle.network.proofs.Channels.{channel_discrete}
 use Rattle.network.proofs.History.{ends, is_packet}
-use Rattle.network.proofs.HistoryLaws.{next_not}
+use Rattle.network.proofs.HistoryLaws.{ends_parts, packet_parts}
 use Rattle.network.proofs.Invariant.{all_elem, elem, elem_more}
 use Rattle.network.proofs.Outputs.{outs_step}
 use Rattle.network.proofs.UnderWay.{moved, outs_of, rest, next}
@@ -105,19 +104,17 @@ module _ (W : Shape) where
     ends_traced q [] e z = tt
     ends_traced q (w ∷ []) e z = (at_sender (q ++ (w ∷ [])) [] (append-nil (q ++ (w ∷ [])) ∙ e), tt)
     ends_traced q (w ∷ v ∷ ws) e z =
-        let s = (and_parts (not (is_tail_word w) && not (is_head_word w)) (ends (v ∷ ws)) z).0 in
-        let t : is_tail_word w ≡ false = not-true (is_tail_word w) (and_parts _ (not (is_head_word w)) s).0 in
+        let (t, n, y) = ends_parts w v ws z in
         let f : (q ++ (w ∷ [])) ++ (v ∷ ws) ≡ h ∷ us = append_assoc q (w ∷ []) (v ∷ ws) ∙ e in
-        let r = ends_traced (q ++ (w ∷ [])) (v ∷ ws) f (and_parts (not (is_tail_word w) && not (is_head_word w)) _ z).1 in
+        let r = ends_traced (q ++ (w ∷ [])) (v ∷ ws) f y in
         (at_sender (q ++ (w ∷ [])) (v ∷ ws) f, subst (λ (k : List ℕ). Traced W S (up c) k (v ∷ ws)) (sym (next_not q w t)) r)
 
   pub packet_traced : (S : List Parcel) (c : ℕ) (p : List ℕ) → Among (c, p) S → is_packet p ≡ true → Traced W S (up c) [] p
   unfolding is_packet
   packet_traced S c [] a e = absurd (grind arith)
   packet_traced S c (h ∷ us) a e =
-      let s = (and_parts (is_head_word h && not (is_tail_word h)) (ends us) e).0 in
-      let t : is_tail_word h ≡ false = not-true (is_tail_word h) (and_parts (is_head_word h) _ s).1 in
-      let r = ends_traced S c h us a (h ∷ []) us refl (and_parts (is_head_word h && not (is_tail_word h)) _ e).1 in
+      let (i, t, f) = packet_parts h us e in
+      let r = ends_traced S c h us a (h ∷ []) us refl f in
       (at_sender S c h us a (h ∷ []) us refl, subst (λ (k : List ℕ). Traced W S (up c) k us) (sym (next_not [] h t)) r)
 
   -- a part of a packet goes on with the packet

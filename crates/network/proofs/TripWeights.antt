@@ -1,5 +1,6 @@
 -- The stations that a packet passes, by its route.
 use Rattle.std.proofs.Common.{◌≡◌, ℕ, zero, suc, ◌+◌, ◌-◌, ◌*◌, ◌<◌, ◌≤◌, Bool, true, false, cond, List, [], ◌∷◌, ◌++◌, Some, None, Option, sym, refl, ap, ◌∙◌, ap₂, arith}
+use mathlib.Core.Path.{fun_ext}
 use Rattle.std.proofs.lemmas.Option.{some_pair_parts}
 use Rattle.packet.proofs.Moving.{floods-kept, stops-kept}
 use Rattle.packet.specs.Heads.{floods}
@@ -20,11 +21,6 @@ unfolding sum_over
 sum_over-append f [] ys = omega arith
 sum_over-append f (x ∷ xs) ys = let t = sum_over-append f xs ys in omega arith
 
-pub sum_over_same' : {A : Type 0} (f g : A → ℕ) (xs : List A) → ((a : A) → f a ≡ g a) → sum_over xs f ≡ sum_over xs g
-unfolding sum_over
-sum_over_same' f g [] e = refl
-sum_over_same' f g (x ∷ xs) e = let t = sum_over_same' f g xs e in let u = e x in omega arith
-
 -- f looks at a head only as far as it stops and floods
 abbrev pub Alike : (Node → List ℕ → ℕ) → List ℕ → Type 0
 Alike f ws = (d g h : ℕ) → stops g ≡ true → stops h ≡ true → floods g ≡ floods h → f (down d) (g ∷ ws) ≡ f (down d) (h ∷ ws)
@@ -37,7 +33,7 @@ module _ (W : Shape) (f : Node → List ℕ → ℕ) (ws : List ℕ) (a : Alike 
   one k h s ih None = refl
   one k h s ih (Some d) =
       let e = ih d in
-      let g = sum_over_same' (λ e. f (down e) (advance h ∷ ws)) (λ e. f (down e) (h ∷ ws)) (subtree W k d) (λ e. a e (advance h) h (stops-kept h s) s (floods-kept h)) in
+      let g = ap (sum_over (subtree W k d)) (fun_ext (λ e. a e (advance h) h (stops-kept h s) s (floods-kept h))) in
       omega arith
 
   pub flood_weight : (k c h : ℕ) → stops h ≡ true → floods h ≡ true → weight f W k (down c) (h ∷ ws) ≡ sum_over (subtree W k c) (λ d. f (down d) (h ∷ ws))
@@ -110,7 +106,7 @@ module _ (W : Shape) (f : Node → List ℕ → ℕ) (ws : List ℕ) (a : Alike 
           ways : (b : Bool) → floods h ≡ b → weight f W (suc k) (down c) (h ∷ ws) ≡ R 0
           ways true e =
               let u = flood_weight (suc k) c h s e in
-              let x = sum_over_same' (λ d. f (down d) (h ∷ ws)) (λ d. f (down d) (g ∷ ws)) (subtree W (suc k) c) (λ d. a d h g s gs (sym fl)) in
+              let x = ap (sum_over (subtree W (suc k) c)) (fun_ext (λ d. a d h g s gs (sym fl))) in
               let y : sum_over (subtree W (suc k) c) (λ d. f (down d) (g ∷ ws)) ≡ sum_over (subtree W W.cards t) (λ d. f (down d) (g ∷ ws)) = rw (subtree_stable (suc k) W.cards c hc (omega arith) (omega arith), ct) in
               rw (fl ∙ e) (omega arith)
           ways false e = rw (fl ∙ e, s, e) (let x = a c h g s gs (sym fl) in rw (← ct) (omega arith))
