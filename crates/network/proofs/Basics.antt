@@ -111,7 +111,7 @@ unfolding rest shape
 shape-append q [] vs a b = b
 shape-append q (w ∷ ws) vs a b = and_from _ _ (and_parts _ _ a).0 (shape-append (next q w) ws vs (and_parts (fits q w) _ a).1 b)
 
-sum_to_none : (n : ℕ) (f : ℕ → ℕ) → ((j : ℕ) → f j ≡ 0) → sum_to n f ≡ 0
+pub sum_to_none : (n : ℕ) (f : ℕ → ℕ) → ((j : ℕ) → f j ≡ 0) → sum_to n f ≡ 0
 unfolding sum_to
 sum_to_none zero f e = refl
 sum_to_none (suc n) f e = let t = sum_to_none n f e in let u = e n in omega arith

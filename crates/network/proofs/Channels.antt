@@ -1,5 +1,5 @@
 -- Channels and stations can be told apart, and what a lawful wiring says of a card and the card above it.
-use Rattle.std.proofs.Common.{◌≡◌, ℕ, ◌<◌, ◌≤◌, true, eqb, Some, None, Option, sym, refl, ap, ◌∙◌, arith, eq-eqb, eqb-true}
+use Rattle.std.proofs.Common.{◌≡◌, ℕ, ◌<◌, ◌≤◌, true, eqb, Some, None, Option, sym, refl, ap, ◌∙◌, arith, eq-eqb, eqb-true, zero, suc, ap₂}
 use Rattle.std.proofs.lemmas.Bool.{and_parts}
 use native.Mathlib.Decide.{ℕ_discrete}
 use Rattle.packet.specs.declared.sides.Side.{Side}
@@ -11,24 +11,22 @@ use Rattle.station.specs.declared.channel.Channel.{Channel}
 use Rattle.station.specs.declared.channel.Channel.TheVariants.{DownLink, Queued, TurnLink, UpLink}
 use Rattle.network.specs.Nodes.{Node, above, node-discrete', number, same_channel, tag}
 
+-- a channel is told by its tag and its number
+unfoldable channel_of : ℕ → ℕ → Channel
+channel_of zero c = Queued c
+channel_of (suc zero) c = UpLink c
+channel_of (suc (suc zero)) c = TurnLink c
+channel_of (suc (suc (suc n))) c = DownLink c
+
+channel_back : (o : Channel) → channel_of (tag o) (number o) ≡ o
+unfolding channel_of tag number
+channel_back (Queued c) = refl
+channel_back (UpLink c) = refl
+channel_back (TurnLink c) = refl
+channel_back (DownLink c) = refl
+
 pub same : (o p : Channel) → tag o ≡ tag p → number o ≡ number p → o ≡ p
-unfolding tag number
-same (Queued c) (Queued d) t e = ap Queued e
-same (Queued c) (UpLink d) t e = absurd (omega arith)
-same (Queued c) (TurnLink d) t e = absurd (omega arith)
-same (Queued c) (DownLink d) t e = absurd (omega arith)
-same (UpLink c) (Queued d) t e = absurd (omega arith)
-same (UpLink c) (UpLink d) t e = ap UpLink e
-same (UpLink c) (TurnLink d) t e = absurd (omega arith)
-same (UpLink c) (DownLink d) t e = absurd (omega arith)
-same (TurnLink c) (Queued d) t e = absurd (omega arith)
-same (TurnLink c) (UpLink d) t e = absurd (omega arith)
-same (TurnLink c) (TurnLink d) t e = ap TurnLink e
-same (TurnLink c) (DownLink d) t e = absurd (omega arith)
-same (DownLink c) (Queued d) t e = absurd (omega arith)
-same (DownLink c) (UpLink d) t e = absurd (omega arith)
-same (DownLink c) (TurnLink d) t e = absurd (omega arith)
-same (DownLink c) (DownLink d) t e = ap DownLink e
+same o p t e = sym (channel_back o) ∙ ap₂ channel_of t e ∙ channel_back p
 
 unfoldable pub channel_discrete : Discrete Channel
 channel_discrete o p =

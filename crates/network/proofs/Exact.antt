@@ -1,8 +1,7 @@
 -- The hops and the deliveries of a history, in the terms of routes.
-use Rattle.std.proofs.Common.{◌≡◌, ℕ, ◌*◌, Bool, true, false, cond, ◌&&◌, T, eqb, ltb, ◌≢◌, List, [], ◌∷◌, ◌++◌, Some, None, sym, refl, ap, ◌∙◌, arith, eqb-true}
+use Rattle.std.proofs.Common.{◌≡◌, ℕ, ◌*◌, Bool, true, false, cond, ◌&&◌, eqb, ltb, List, [], ◌∷◌, ◌++◌, Some, None, refl, ap, ◌∙◌, arith, eq-eqb, ne_eqb}
 use Rattle.network.specs.Sums.{sum_over}
 use mathlib.Core.Path.{fun_ext}
-use lib.Dec.{eqb_refl}
 use mathlib.Core.Logic.{if_neg, if_pos}
 use Rattle.packet.specs.Heads.{floods}
 use Rattle.packet.specs.Routes.{stops}
@@ -87,25 +86,11 @@ at_card P d e h l ws =
       | yes p ↦
           let q : e ≡ d = cc in
           if_pos (node_discrete (down e) (down d)) p (whole_as l (arrival P (down e) [] (stop_head h ∷ ws))) 0
-          ∙ rw (q, arrived P d (stop_head h) ws (stop_stops h), as_alike P d (stop_head h) h ws (stop_flood h)) (equal d (whole_as l (as_arrived P d h ws)))
+          ∙ rw (q, arrived P d (stop_head h) ws (stop_stops h), as_alike P d (stop_head h) h ws (stop_flood h), eq-eqb d d refl)
       | no n ↦
           if_neg (node_discrete (down e) (down d)) n (whole_as l (arrival P (down e) [] (stop_head h ∷ ws))) 0
-          ∙ sym (other (λ q. n (ap down q)) (whole_as l (as_arrived P d h ws)))
+          ∙ rw (ne_eqb e d (λ q. n (ap down q)))
     ]
-  where
-    equal : (n v : ℕ) → v ≡ cond (eqb n n) v 0
-    equal n v = test (eqb n n) (eqb_refl n)
-      where
-        test : (b : Bool) → T b → v ≡ cond b v 0
-        test true t = refl
-        test false t = absurd t
-
-    other : e ≢ d → (v : ℕ) → cond (eqb e d) v 0 ≡ 0
-    other n v = test (eqb e d) refl
-      where
-        test : (b : Bool) → eqb e d ≡ b → cond b v 0 ≡ 0
-        test true q = absurd (n (eqb-true e d q))
-        test false q = refl
 
 brings : (W : Shape) (L : Rooted W) (P : Verdicts) (d : ℕ) (l : List ℕ) (m : ℕ × List ℕ) → SentFrom W L m → hops (arrives P d l) W m ≡ brought W P d l m
 unfolding brought brought_by way is_way

@@ -44,6 +44,11 @@ packet_parts h ws e =
     let (i, t) = and_parts (is_head_word h) _ s in
     (i, not-true _ t, r)
 
+pub none_is : (r : Option FireFault) → is_none r ≡ true → r ≡ None
+unfolding is_none
+none_is None e = refl
+none_is (Some r) e = absurd (grind arith)
+
 ends-rest : (h : ℕ) (q ws : List ℕ) → ends ws ≡ true → (rest (h ∷ q) ws ≡ []) × (shape (h ∷ q) ws ≡ true)
 unfolding ends rest shape fits
 ends-rest h q [] e = absurd (grind arith)
@@ -226,12 +231,7 @@ module _ (W : Shape) (L : Rooted W) (P : Verdicts) where
   sendable_is x c p e = sent_is W L (length (x.chan (Queued c))) c p e
 
   pub fire_is : (x : Flow) (i : Channel) → ltb (number i) W.cards && is_none (refusal W P x i) ≡ true → (number i < W.cards) × Granted x i
-  unfolding is_none
-  fire_is x i e = (ltb-true (number i) W.cards (and_parts _ (is_none (refusal W P x i)) e).0, granted x i (is_none_lem (refusal W P x i) (and_parts (ltb (number i) W.cards) _ e).1))
-    where
-      is_none_lem : (r : Option FireFault) → is_none r ≡ true → r ≡ None
-      is_none_lem None e = refl
-      is_none_lem (Some r) e = absurd (grind arith)
+  fire_is x i e = (ltb-true (number i) W.cards (and_parts _ (is_none (refusal W P x i)) e).0, granted x i (none_is (refusal W P x i) (and_parts (ltb (number i) W.cards) _ e).1))
 
   pub step_good : (k : Event) (h : History) → Good W h.flow → Good W (happens W P k h).flow
   unfolding happens step_send step_fire

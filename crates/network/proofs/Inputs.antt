@@ -1,5 +1,6 @@
 -- The inputs of a station, and the channels at them.
 use Rattle.std.proofs.Common.{◌≡◌, ℕ, zero, suc, ◌<◌, Bool, true, false, cond, eqb, ◌≢◌, Some, None, Option, sym, refl, ap, ◌∙◌, arith, eq-eqb, eqb-true}
+use Rattle.std.proofs.lemmas.Bool.{false_from_ne_true}
 use Rattle.packet.specs.declared.sides.Side.{Side}
 use Rattle.packet.specs.declared.sides.Side.TheVariants.{Left, Right}
 use Rattle.wiring.specs.Shapes.{Shape}
@@ -110,8 +111,4 @@ pub same_input_self : (i : Input) → same_input i i ≡ true
 same_input_self i = eq-eqb (input_number i) (input_number i) refl
 
 pub same_input_not : (i j : Input) → i ≢ j → same_input i j ≡ false
-same_input_not i j n = ways (same_input i j) refl
-  where
-    ways : (b : Bool) → same_input i j ≡ b → same_input i j ≡ false
-    ways true e = absurd (n (same_input_is i j e))
-    ways false e = e
+same_input_not i j n = false_from_ne_true _ (λ e. n (same_input_is i j e))

@@ -1,5 +1,6 @@
 -- The state of the tree and the network with its history: when they match, and that a fire keeps them so.
 use Rattle.std.proofs.Common.{◌≡◌, ℕ, ◌<◌, Bool, true, false, cond, not, ◌&&◌, leb, ◌≢◌, ◌⊎◌, List, [], ◌∷◌, ◌++◌, length, Some, None, Ok, Err, Option, Result, sym, refl, ap, ◌∙◌, ap₂, inl, inr, append-nil, arith}
+use Rattle.std.specs.Option.{option_map}
 use Rattle.std.proofs.lemmas.Option.{same_Some}
 use Rattle.std.proofs.lemmas.Bool.{and_parts, not-true}
 use mathlib.Core.Logic.{if_neg, if_pos}
@@ -31,7 +32,7 @@ use Rattle.network.proofs.Phases.{delivers-phase, hold_phase, leaves-phase, outs
 use Rattle.network.proofs.Planned.{kept_words, links_of, merge_by_lem, merge-head, merge-later, merge_by, plan_after, plan-kept, plan_links, plan_word}
 use Rattle.network.proofs.Preserve.{all_send, holder_tail, passed-at, passed_out, source_at, source_out}
 use Rattle.network.proofs.HistoryLaws.{Good, admitted, outs_of_distinct}
-use Rattle.network.proofs.Stands.{after_map, delivers-map, held_for, held_for-map, leaves_map, map_hold, map_option, outs-map, phase_for, stands, stands_by}
+use Rattle.network.proofs.Stands.{after_map, delivers-map, held_for, held_for-map, leaves_map, map_hold, outs-map, phase_for, stands, stands_by}
 use Rattle.network.proofs.Table.{boxed_hold, boxed_inbox, boxed-length, boxed-reads, inbox_at, pour, pour_hold, pour_inbox, pour-length, pour_other, pour-rest, stand, stand_inbox, stand-length, stand_other, stand-reads, stand_same, write_all, writes, writes_keep}
 use Rattle.network.proofs.Outputs.{All, all_map, all_map₂}
 use Rattle.network.proofs.Ranks.{Out, outs_of_lower, target-known}
@@ -116,14 +117,14 @@ module _
       ways None e = refl
       ways (Some j) e = phase_for P s j (y.passed j) (G.inv.begun s j e)
 
-  for_same : map_option (input_of W s) (held_for d) ≡ map_option Some (y.source s)
-  for_same = sym (held_for-map (input_of W s) d) ∙ ap held_for (M.hold s) ∙ held_for-map Some (stands P y s) ∙ ap (map_option Some) source_for
+  for_same : option_map (input_of W s) (held_for d) ≡ option_map Some (y.source s)
+  for_same = sym (held_for-map (input_of W s) d) ∙ ap held_for (M.hold s) ∙ held_for-map Some (stands P y s) ∙ ap (option_map Some) source_for
 
   merges : (w : ℕ) → fits q w ≡ true → merge d i w ≡ cond (admits (y.source s) o) (Ok tt) (Err HeldByOther)
-  unfolding merge_by admits map_option is_head_word
+  unfolding merge_by admits is_head_word
   merges w f = merge_by_lem d i w ∙ ways (held_for d) (y.source s) refl for_same
     where
-      ways : (j : Option Input) (k : Option Channel) → y.source s ≡ k → map_option (input_of W s) j ≡ map_option Some k → merge_by j i (kind_of w) ≡ cond (admits k o) (Ok tt) (Err HeldByOther)
+      ways : (j : Option Input) (k : Option Channel) → y.source s ≡ k → option_map (input_of W s) j ≡ option_map Some k → merge_by j i (kind_of w) ≡ cond (admits k o) (Ok tt) (Err HeldByOther)
       ways None None e m = merge-head (kind_of w) (fits_first q w (G.inv.quiet o (λ p. grind arith)) f)
       ways None (Some k) e m = absurd (grind arith)
       ways (Some j) None e m = absurd (grind arith)

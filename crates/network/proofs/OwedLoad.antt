@@ -1,7 +1,8 @@
 -- Hops owed, read off the state, are the load of the network with history.
-use Rattle.std.proofs.Common.{◌≡◌, ℕ, zero, suc, ◌+◌, ◌*◌, Bool, true, false, cond, not, ◌≢◌, ◌⊎◌, List, [], ◌∷◌, ◌++◌, Some, None, Option, sym, refl, ap, ◌∙◌, ap₂, inl, inr, arith}
+use Rattle.std.proofs.Common.{◌≡◌, ℕ, zero, suc, ◌+◌, ◌*◌, Bool, true, false, cond, not, ◌⊎◌, List, [], ◌∷◌, ◌++◌, Some, None, Option, sym, refl, ap, ◌∙◌, ap₂, inl, inr, arith}
+use Rattle.std.proofs.lemmas.Option.{same_Some}
 use mathlib.Core.Path.{fun_ext}
-use Rattle.std.proofs.lemmas.Bool.{and_parts, not-true}
+use Rattle.std.proofs.lemmas.Bool.{and_parts, not-true, false_from_ne_true}
 use Rattle.packet.proofs.Moving.{head_not_tail}
 use Rattle.packet.specs.Routes.{advance, stops}
 use Rattle.packet.specs.Packets.{is_head_word, is_tail_word}
@@ -110,18 +111,8 @@ module _ (W : Shape) (P : Verdicts) (x : State) (y : Flow) (M : Matches W P x y)
           phase-head P (target W o) o j (y.passed j)
           ∙ elim (channel_discrete j o) [
             | yes p ↦ rw (ap (λ (k : Channel). same_channel k o) p ∙ same_channel_self o) (ap (λ (o : Channel). oldest (y.passed o)) p)
-            | no n ↦ rw (not_same j n) (sym (ap oldest (G.inv.quiet o (λ r. n (same (sym e ∙ r))))))
+            | no n ↦ rw (false_from_ne_true _ (λ e. n (same_channel_is j o e))) (sym (ap oldest (G.inv.quiet o (λ r. n (same_Some _ _ (sym e ∙ r))))))
           ]
-        where
-          same : {a b : Channel} → Some a ≡ Some b → a ≡ b
-          same e = cc
-
-          not_same : (j : Channel) → j ≢ o → same_channel j o ≡ false
-          not_same j n = case (same_channel j o) refl
-            where
-              case : (b : Bool) → same_channel j o ≡ b → same_channel j o ≡ false
-              case true e = absurd (n (same_channel_is j o e))
-              case false e = e
 
   pub owed_in_lem : (o : Channel) → owed_in W x o ≡ waiting one W (2 * W.cards) (target W o) (y.passed o) (y.chan o)
   unfolding owed_in waiting

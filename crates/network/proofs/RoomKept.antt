@@ -1,8 +1,7 @@
 -- No queue and no inbox ever has more words than it has room for.
-use Rattle.std.proofs.Common.{◌≡◌, ℕ, ◌+◌, ◌≤◌, Bool, true, false, cond, not, ◌&&◌, ltb, leb, List, [], ◌∷◌, ◌++◌, length, Some, None, Ok, Err, Option, Result, sym, refl, ap, ◌∙◌, inl, inr, arith, length-append, leb-false}
-use Rattle.std.proofs.lemmas.Bool.{and_parts}
+use Rattle.std.proofs.Common.{◌≡◌, ℕ, ◌+◌, ◌≤◌, Bool, true, false, cond, not, ◌&&◌, ltb, leb, List, [], ◌∷◌, ◌++◌, length, Some, None, Ok, Err, Result, sym, refl, ap, ◌∙◌, inl, inr, arith, length-append, leb-false}
+use Rattle.std.proofs.lemmas.Bool.{and_parts, false_from_ne_true}
 use native.Mathlib.Decide.{ℕ_discrete}
-use Rattle.refusal.specs.declared.drive.FireFault.{FireFault}
 use Rattle.refusal.specs.declared.drive.FireFault.TheVariants.{HeldByOther, InboxFull, LinkOccupied, NothingWaits}
 use Rattle.refusal.specs.declared.send.PacketFault.{PacketFault}
 use Rattle.wiring.specs.Shapes.{Shape}
@@ -18,7 +17,7 @@ use Rattle.network.proofs.Delivery.{Brings, delivered}
 use Rattle.network.proofs.Feeders.{outs_of_fed}
 use Rattle.network.proofs.Flow.{Flow, admits, all_clear, fired, fits, is_empty, pass, refusal, refusal_at, refusal_by}
 use Rattle.network.proofs.History.{Event, History, happens, is_granted, is_none, moving, past, queued, queueing, resting, sendable, step_fire, step_send, taking, took_by}
-use Rattle.network.proofs.HistoryLaws.{Granted, fire_is}
+use Rattle.network.proofs.HistoryLaws.{Granted, fire_is, none_is}
 use Rattle.network.proofs.Invariant.{all_elem, elem, feeder, push_all_out}
 use Rattle.network.proofs.Sendings.{sends_room}
 use Rattle.network.proofs.UnderWay.{delivers, leaves, outs_of, put}
@@ -107,11 +106,7 @@ module _ (W : Shape) (L : Rooted W) (P : Verdicts) where
     -- no station sends into a queue
     not_into : (c : ℕ) → elem (Queued c) os ≡ false
     unfolding feeder
-    not_into c = ways (elem (Queued c) os) refl
-      where
-        ways : (b : Bool) → elem (Queued c) os ≡ b → elem (Queued c) os ≡ false
-        ways true e = let z : None ≡ Some s = all_elem (λ o. feeder W o ≡ Some s) (Queued c) os (outs_of_fed W L s (q ++ (g.w ∷ []))) e in absurd (grind arith)
-        ways false e = e
+    not_into c = false_from_ne_true _ (λ e. let z : None ≡ Some s = all_elem (λ o. feeder W o ≡ Some s) (Queued c) os (outs_of_fed W L s (q ++ (g.w ∷ []))) e in grind arith)
 
     queue_is : (c : ℕ) → (pass W P x i s q g.w g.ws).chan (Queued c) ≡ put channel_discrete x.chan i g.ws (Queued c)
     unfolding pass
@@ -139,11 +134,6 @@ module _ (W : Shape) (L : Rooted W) (P : Verdicts) where
 
     fired_room : Roomy (fired W P x i)
     fired_room = rw g.result (record { queues = λ c. rw (queue_is c) (queues_kept c); inboxes = inboxes_kept })
-
-  none_is : (r : Option FireFault) → is_none r ≡ true → r ≡ None
-  unfolding is_none
-  none_is None e = refl
-  none_is (Some r) e = absurd (grind arith)
 
   step_room : (k : Event) (h : History) → Roomy h.flow → Roomy (happens W P k h).flow
   unfolding happens step_send step_fire

@@ -1,5 +1,6 @@
 -- Every run of the machine has a run of the network with history beside it.
 use Rattle.std.proofs.Common.{◌≡◌, ℕ, zero, suc, ◌+◌, ◌<◌, Bool, true, false, cond, ◌&&◌, eqb, ltb, ◌≢◌, List, [], ◌∷◌, ◌++◌, length, get_or, replicate, Some, None, Ok, Err, Option, Result, sym, refl, ap, ◌∙◌, inl, inr, append-nil, arith, eq-eqb, ltb-true, eqb-true, lt-ltb}
+use Rattle.std.proofs.lemmas.List.{length-replicate}
 use Rattle.std.proofs.lemmas.Bool.{and_from}
 use mathlib.Core.Path.{fun_ext}
 use native.Mathlib.Decide.{ℕ_discrete}
@@ -68,15 +69,11 @@ blank-at zero c = refl
 blank-at (suc n) zero = refl
 blank-at (suc n) (suc c) = blank-at n c
 
-blank-length : (n : ℕ) → length (replicate n blank) ≡ n
-blank-length zero = refl
-blank-length (suc n) = ap suc (blank-length n)
-
 empty_match : (W : Shape) (P : Verdicts) → Matches W P empty none_yet.flow
 unfolding reads hold_of stands stands_by map_hold holds on_link hold_in
 empty_match W P =
     record {
-      size = blank-length most_cards;
+      size = length-replicate most_cards blank;
       chan = λ o. ap (holds o) (blank-at most_cards (number o)) ∙ none_in o;
       hold = λ s. ap (λ (k : Card). map_hold (input_of W s) (hold_in s k)) (blank-at most_cards (card_of s)) ∙ none_at s;
       inbox = λ c. ap (λ (k : Card). k.inbox) (blank-at most_cards c);

@@ -1,5 +1,6 @@
 -- What a station does goes by its head alone, and not by the name of its input.
 use Rattle.std.proofs.Common.{◌≡◌, ℕ, Bool, true, false, cond, List, [], ◌∷◌, Some, None, Option, refl, arith}
+use Rattle.std.specs.Option.{option_map}
 use Rattle.packet.specs.Routes.{stops}
 use Rattle.packet.specs.Packets.{is_tail_word}
 use Rattle.wiring.specs.Shapes.{Shape}
@@ -19,10 +20,6 @@ map_hold f Free = Free
 map_hold f (Held i h) = Held (f i) h
 map_hold f (Dropping i h) = Dropping (f i) h
 map_hold f (Accepting i h) = Accepting (f i) h
-
-unfoldable pub map_option : {A B : Type 0} → (A → B) → Option A → Option B
-map_option f None = None
-map_option f (Some a) = Some (f a)
 
 -- the input for which a station is held
 unfoldable pub held_for : {A : Type 0} → Hold A → Option A
@@ -64,8 +61,8 @@ delivers-map f P (down c) (Held i h) w = refl
 delivers-map f P (down c) (Dropping i h) w = refl
 delivers-map f P (down c) (Accepting i h) w = refl
 
-pub held_for-map : {A B : Type 0} (f : A → B) (d : Hold A) → held_for (map_hold f d) ≡ map_option f (held_for d)
-unfolding held_for map_hold map_option
+pub held_for-map : {A B : Type 0} (f : A → B) (d : Hold A) → held_for (map_hold f d) ≡ option_map f (held_for d)
+unfolding held_for map_hold
 held_for-map f Free = refl
 held_for-map f (Held i h) = refl
 held_for-map f (Dropping i h) = refl

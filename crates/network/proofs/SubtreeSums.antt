@@ -9,7 +9,7 @@ use Rattle.routing.proofs.Subtree.{covers_le, covers_other, covers_self, covers_
 use Rattle.routing.specs.Subtrees.{count_below, covers}
 use Rattle.network.specs.Nodes.{above}
 use Rattle.network.specs.Sums.{sum_over, sum_to}
-use Rattle.network.proofs.Basics.{sum_to_same}
+use Rattle.network.proofs.Basics.{sum_to_same, sum_to_none}
 use Rattle.network.proofs.Channels.{Rooted}
 use Rattle.network.proofs.Trip.{over, subtree}
 use Rattle.network.proofs.TripWeights.{sum_over-append}
@@ -19,11 +19,6 @@ unfolding sum_to
 sum_to_add zero f g = refl
 sum_to_add (suc n) f g = let t = sum_to_add n f g in omega arith
 
-sum_to_zero : (n : ℕ) → sum_to n (λ d. 0) ≡ 0
-unfolding sum_to
-sum_to_zero zero = refl
-sum_to_zero (suc n) = let t = sum_to_zero n in omega arith
-
 -- the sum of a function that is 0 but at c
 pub sum_to_point : (n c : ℕ) (f : ℕ → ℕ) → c < n → sum_to n (λ d. cond (eqb c d) (f d) 0) ≡ f c
 unfolding sum_to
@@ -31,7 +26,7 @@ sum_to_point zero c f h = absurd (omega arith)
 sum_to_point (suc n) c f h =
     elim (ℕ_discrete c n) [
       | yes p ↦
-          let z : sum_to n (λ d. cond (eqb c d) (f d) 0) ≡ 0 = sum_to_same n _ (λ d. 0) (λ d l. rw (ne_eqb c d (λ e. below d l (sym e ∙ p)))) ∙ sum_to_zero n in
+          let z : sum_to n (λ d. cond (eqb c d) (f d) 0) ≡ 0 = sum_to_same n _ (λ d. 0) (λ d l. rw (ne_eqb c d (λ e. below d l (sym e ∙ p)))) ∙ sum_to_none n _ (λ d. refl) in
           let u : cond (eqb c n) (f n) 0 ≡ f c = rw (eq-eqb c n p) (ap f (sym p)) in
           omega arith
       | no np ↦
@@ -177,5 +172,5 @@ module _ (W : Shape) (L : Rooted W) where
       where
         side : (b : Side) (o : Option ℕ) → W.daughter b c ≡ o → ((e : ℕ) → e < W.cards → W.cards ≤ e + k → sum_over (subtree W k e) f ≡ sum_to W.cards (under e)) →
             sum_over (over (subtree W k) o) f ≡ sum_to W.cards (λ d. over_n (λ t. under t d) o)
-        side b None q rec = sym (sum_to_zero W.cards)
+        side b None q rec = sym (sum_to_none W.cards _ (λ d. refl))
         side b (Some e) q rec = let t = L.below e c (L.up b c e q) in rec e t.1 (omega arith)

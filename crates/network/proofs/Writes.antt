@@ -1,5 +1,6 @@
 -- The machine's reads and writes, channel by channel.
 use Rattle.std.proofs.Common.{◌≡◌, ℕ, Bool, true, false, cond, not, ◌&&◌, ◌||◌, leb, List, [], ◌∷◌, ◌++◌, length, is_some, Some, None, Option, sym, refl, ap, ◌∙◌, arith}
+use mathlib.Core.Bool.{and-true, and_assoc}
 use Rattle.station.specs.Holds.{after}
 use Rattle.station.specs.declared.channel.Channel.{Channel}
 use Rattle.station.specs.declared.channel.Channel.TheVariants.{DownLink, Queued, TurnLink, UpLink}
@@ -101,30 +102,22 @@ empty_is (Some w) = refl
 clear-append : (f : Channel → List ℕ) (os ps : List Channel) → all_clear f (os ++ ps) ≡ all_clear f os && all_clear f ps
 unfolding all_clear
 clear-append f [] ps = refl
-clear-append f (o ∷ os) ps = rw (clear-append f os ps) (assoc (is_empty (f o)) (all_clear f os) (all_clear f ps))
-  where
-    assoc : (a b c : Bool) → a && (b && c) ≡ a && b && c
-    assoc true b c = refl
-    assoc false b c = refl
-
-one-clear : (a : Bool) → not (a && true) ≡ not a
-one-clear true = refl
-one-clear false = refl
+clear-append f (o ∷ os) ps = rw (clear-append f os ps) (sym (and_assoc (is_empty (f o)) (all_clear f os) (all_clear f ps)))
 
 up_taken : (x : State) (c : ℕ) (b : Bool) → cond b (is_some (card_at x c).up_link) false ≡ not (all_clear (reads x) (cond b (UpLink c ∷ []) []))
 unfolding all_clear reads holds number
-up_taken x c true = empty_is (card_at x c).up_link ∙ sym (one-clear _)
+up_taken x c true = empty_is (card_at x c).up_link ∙ sym (ap not (and-true _))
 up_taken x c false = refl
 
 turn_taken : (x : State) (c : ℕ) (b : Bool) → cond b (is_some (card_at x c).turn_link) false ≡ not (all_clear (reads x) (cond b (TurnLink c ∷ []) []))
 unfolding all_clear reads holds number
-turn_taken x c true = empty_is (card_at x c).turn_link ∙ sym (one-clear _)
+turn_taken x c true = empty_is (card_at x c).turn_link ∙ sym (ap not (and-true _))
 turn_taken x c false = refl
 
 down_taken_lem : (x : State) (d : Option ℕ) → down_taken x d ≡ not (all_clear (reads x) (down_link_to d))
 unfolding all_clear reads holds number down_link_to
 down_taken_lem x None = refl
-down_taken_lem x (Some d) = empty_is (card_at x d).down_link ∙ sym (one-clear _)
+down_taken_lem x (Some d) = empty_is (card_at x d).down_link ∙ sym (ap not (and-true _))
 
 pub link_taken_lem : (x : State) (c : ℕ) (p : Plan ℕ) → link_taken x c p ≡ not (all_clear (reads x) (links_of c p))
 unfolding links_of
