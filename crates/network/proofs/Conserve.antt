@@ -1,5 +1,6 @@
 -- A word that passes a station takes that station's share from the load, and nothing else.
 use Rattle.std.proofs.Common.{◌≡◌, ℕ, suc, ◌+◌, ◌*◌, ◌<◌, ◌≤◌, ◌≢◌, List, [], ◌∷◌, ◌++◌, refl, arith}
+use Rattle.std.specs.List.{AllByRecursion}
 use Rattle.wiring.specs.Shapes.{Shape}
 use Rattle.station.specs.Plans.{Verdicts}
 use Rattle.station.specs.declared.channel.Channel.{Channel}
@@ -9,7 +10,7 @@ use Rattle.network.proofs.Basics.{put_other, put_same, sum_channels-at, waiting_
 use Rattle.network.proofs.Channels.{Rooted, channel_discrete}
 use Rattle.network.proofs.Flow.{Flow, load, pass, push_all}
 use Rattle.network.proofs.UnderWay.{along, leaves, moved, next, outs_of, put, rest, waiting, weight}
-use Rattle.network.proofs.Outputs.{All, all_map₂}
+use Rattle.network.proofs.Outputs.{all_map₂}
 use Rattle.network.proofs.Ranks.{outs_of_lower, rank, stable, target-known}
 
 pub moved_push : (q : List ℕ) (w : ℕ) → moved (q ++ (w ∷ [])) ≡ moved q ++ (leaves q w ∷ [])
@@ -19,7 +20,7 @@ moved_push (h ∷ q) w = refl
 
 abbrev pub Distinct : List Channel → Type 0
 Distinct [] = Unit {0}
-Distinct (o ∷ os) = All (λ p. p ≢ o) os × Distinct os
+Distinct (o ∷ os) = AllByRecursion (λ p. p ≢ o) os × Distinct os
 
 module _ (f : Node → List ℕ → ℕ) (W : Shape) (k : ℕ) where
   unfoldable pub at : (Channel → List ℕ) → (Channel → List ℕ) → Channel → ℕ
@@ -49,14 +50,14 @@ module _ (f : Node → List ℕ → ℕ) (W : Shape) (k : ℕ) where
       omega arith
 
   pub sum_push_all : (os : List Channel) (c p : Channel → List ℕ) (r : List ℕ) (w : ℕ) → Distinct os →
-      All (λ o. (number o < W.cards) × (rest (p o) (c o) ≡ r)) os →
+      AllByRecursion (λ o. (number o < W.cards) × (rest (p o) (c o) ≡ r)) os →
       sum_at (push_all os w c) p ≡ sum_at c p + sum_over os (λ o. weight f W k (target W o) (r ++ (w ∷ [])))
   unfolding push_all sum_over
   sum_push_all [] c p r w d a = omega arith
   sum_push_all (o ∷ os) c p r w d a =
       let c' : Channel → List ℕ = put channel_discrete c o (c o ++ (w ∷ [])) in
       let s = sum_push c p o w a.0.0 in
-      let later : All (λ o. (number o < W.cards) × (rest (p o) (c' o) ≡ r)) os =
+      let later : AllByRecursion (λ o. (number o < W.cards) × (rest (p o) (c' o) ≡ r)) os =
       all_map₂ _ _ _ (λ o' n m. (m.0, simp (put_other, n) m.1)) os d.0 a.1 in
       let t = sum_push_all os c' p r w d.1 later in
       let e : weight f W k (target W o) (rest (p o) (c o) ++ (w ∷ [])) ≡ weight f W k (target W o) (r ++ (w ∷ [])) = rw a.0.1 in
@@ -74,7 +75,7 @@ rank-fits W (Node.down c) h = omega arith
 
 pub pass-load : (f : Node → List ℕ → ℕ) (W : Shape) (L : Rooted W) (P : Verdicts) (x : Flow) (i : Channel) (w : ℕ) (ws : List ℕ) →
     number i < W.cards → x.chan i ≡ w ∷ ws → Distinct (outs_of W (target W i) (x.passed i ++ (w ∷ []))) →
-    All (SendsInto W x i (x.passed i)) (outs_of W (target W i) (x.passed i ++ (w ∷ []))) →
+    AllByRecursion (SendsInto W x i (x.passed i)) (outs_of W (target W i) (x.passed i ++ (w ∷ []))) →
     load f W (pass W P x i (target W i) (x.passed i) w ws) + f (target W i) (x.passed i ++ (w ∷ [])) ≡ load f W x
 unfolding pass load sum_at at weight
 pass-load f W L P x i w ws h e d a =
@@ -85,7 +86,7 @@ pass-load f W L P x i w ws h e d a =
     let c₁ : Channel → List ℕ = put channel_discrete x.chan i ws in
     let p₁ : Channel → List ℕ = put channel_discrete x.passed i (next q w) in
     let popped = sum_pop f W n x.chan x.passed i w ws h e in
-    let ready : All (λ o. (number o < W.cards) × (rest (p₁ o) (c₁ o) ≡ moved q)) os =
+    let ready : AllByRecursion (λ o. (number o < W.cards) × (rest (p₁ o) (c₁ o) ≡ moved q)) os =
     all_map₂ _ _ _ (λ o l t. (l.known, let ne = t.other in simp (put_other, ne) t.follows)) os (outs_of_lower W L s (q ++ (w ∷ [])) (target-known W L i h)) a in
     let pushed = sum_push_all f W n os c₁ p₁ (moved q) (leaves q w) d ready in
     let once : weight f W n s (q ++ (w ∷ [])) ≡ weight f W (suc n) s (q ++ (w ∷ [])) =

@@ -1,5 +1,6 @@
 -- The hops and the deliveries of a history, in the terms of routes.
 use Rattle.std.proofs.Common.{◌≡◌, ℕ, ◌*◌, Bool, true, false, cond, ◌&&◌, eqb, ltb, List, [], ◌∷◌, ◌++◌, Some, None, refl, ap, ◌∙◌, arith, eq-eqb, ne_eqb}
+use Rattle.std.specs.List.{AllByRecursion}
 use Rattle.network.specs.Sums.{sum_over}
 use mathlib.Core.Path.{fun_ext}
 use mathlib.Core.Logic.{if_neg, if_pos}
@@ -20,29 +21,29 @@ use Rattle.network.proofs.TripHops.{path_hops_lem, stop_flood, stop_stops, stop_
 use Rattle.network.proofs.HistoryLaws.{hops_law, sendable_is}
 use Rattle.network.proofs.Trip.{Trip, is_way, reached, trip, trip_hops, trip_hops_by, way}
 use Rattle.network.proofs.Sendings.{IsSent, sent_way}
-use Rattle.network.proofs.Outputs.{All, all_append, all_map, sum_over_same}
+use Rattle.network.proofs.Outputs.{all_append, all_map, sum_over_same}
 
 -- a granted send
 abbrev pub SentFrom : (W : Shape) → Rooted W → ℕ × List ℕ → Type 0
 SentFrom W L m = IsSent W L m.0 m.1
 
 module _ (W : Shape) (L : Rooted W) (P : Verdicts) where
-  step_sent : (k : Event) (h : History) → All (SentFrom W L) h.sent → All (SentFrom W L) (happens W P k h).sent
+  step_sent : (k : Event) (h : History) → AllByRecursion (SentFrom W L) h.sent → AllByRecursion (SentFrom W L) (happens W P k h).sent
   unfolding happens step_send step_fire
   step_sent (queueing c p) h a = ways (sendable W h.flow c p) refl
     where
-      ways : (b : Bool) → sendable W h.flow c p ≡ b → All (SentFrom W L) (step_send h c p b).sent
+      ways : (b : Bool) → sendable W h.flow c p ≡ b → AllByRecursion (SentFrom W L) (step_send h c p b).sent
       ways true e = all_append (SentFrom W L) h.sent ((c, p) ∷ []) a (sendable_is W L P h.flow c p e, tt)
       ways false e = a
   step_sent (moving i) h a = ways (ltb (number i) W.cards && is_none (refusal W P h.flow i))
     where
-      ways : (b : Bool) → All (SentFrom W L) (step_fire W P h i b).sent
+      ways : (b : Bool) → AllByRecursion (SentFrom W L) (step_fire W P h i b).sent
       ways true = a
       ways false = a
   step_sent (taking c) h a = a
   step_sent resting h a = a
 
-  pub run_sent : (ks : List Event) → All (SentFrom W L) (past W P ks).sent
+  pub run_sent : (ks : List Event) → AllByRecursion (SentFrom W L) (past W P ks).sent
   unfolding past
   run_sent [] = tt
   run_sent (k ∷ ks) = step_sent k (past W P ks) (run_sent ks)

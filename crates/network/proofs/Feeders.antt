@@ -1,5 +1,6 @@
 -- Each channel has one station that feeds it, and the outputs of a station differ.
 use Rattle.std.proofs.Common.{◌≡◌, ℕ, ◌+◌, ◌-◌, ◌<◌, Bool, true, false, cond, List, [], ◌∷◌, ◌++◌, Some, None, Option, sym, refl, ap, ◌∙◌, arith}
+use Rattle.std.specs.List.{AllByRecursion}
 use Rattle.packet.proofs.Moving.{head-kept, tail_kept}
 use Rattle.packet.specs.Heads.{floods}
 use Rattle.packet.specs.Routes.{side_of, stops, top_bit}
@@ -15,7 +16,7 @@ use Rattle.network.proofs.Channels.{Rooted}
 use Rattle.network.proofs.Conserve.{Distinct, moved_push}
 use Rattle.network.proofs.Flow.{fits, is_empty}
 use Rattle.network.proofs.Invariant.{fall_from, feeder, feeder_by}
-use Rattle.network.proofs.Outputs.{All, outs_of_each}
+use Rattle.network.proofs.Outputs.{outs_of_each}
 use Rattle.network.proofs.Ranks.{rank}
 use Rattle.network.proofs.UnderWay.{leaves, moved, outs_of, next}
 
@@ -54,7 +55,7 @@ module _ (W : Shape) (L : Rooted W) where
   step_fed _ _ _ (descends c d g t e) = falls c d (side_of (top_bit g)) e
   step_fed _ _ _ (spreads b c d g t f e) = falls c d b e
 
-  pub outs_of_fed : (s : Node) (q : List ℕ) → All (λ o. feeder W o ≡ Some s) (outs_of W s q)
+  pub outs_of_fed : (s : Node) (q : List ℕ) → AllByRecursion (λ o. feeder W o ≡ Some s) (outs_of W s q)
   outs_of_fed s q = outs_of_each W _ s q (step_fed s)
 
   one : (d : Option ℕ) → Distinct (down_link_to d)

@@ -1,5 +1,6 @@
 -- What holds of every channel: the packet under way in it is the one that its feeder is sending.
 use Rattle.std.proofs.Common.{◌≡◌, ℕ, Bool, true, false, cond, ◌≢◌, List, [], ◌∷◌, ◌++◌, Some, None, Option, sym, refl, ap, ◌∙◌, arith}
+use Rattle.std.specs.List.{AllByRecursion}
 use mathlib.Core.Logic.{if_neg, if_pos, ite}
 use Rattle.wiring.specs.Shapes.{Shape}
 use Rattle.station.specs.declared.channel.Channel.{Channel}
@@ -10,13 +11,12 @@ use Rattle.network.proofs.Channels.{channel_discrete}
 use Rattle.network.proofs.Conserve.{Distinct}
 use Rattle.network.proofs.Flow.{Flow, is_empty, push_all}
 use Rattle.network.proofs.UnderWay.{moved, outs_of, rest}
-use Rattle.network.proofs.Outputs.{All}
 
 unfoldable pub elem : Channel → List Channel → Bool
 elem o [] = false
 elem o (p ∷ os) = ite (channel_discrete o p) true (elem o os)
 
-pub all_elem : (P : Channel → Type 0) (o : Channel) (os : List Channel) → All P os → elem o os ≡ true → P o
+pub all_elem : (P : Channel → Type 0) (o : Channel) (os : List Channel) → AllByRecursion P os → elem o os ≡ true → P o
 unfolding elem
 all_elem P o [] a e = absurd (grind arith)
 all_elem P o (p ∷ os) a e =
@@ -33,12 +33,12 @@ elem_more o p os e =
       | no n ↦ if_neg (channel_discrete o p) n true (elem o os) ∙ e
     ]
 
-pub all_by : (P : Channel → Type 0) (os : List Channel) → ((o : Channel) → elem o os ≡ true → P o) → All P os
+pub all_by : (P : Channel → Type 0) (os : List Channel) → ((o : Channel) → elem o os ≡ true → P o) → AllByRecursion P os
 unfolding elem
 all_by P [] f = tt
 all_by P (p ∷ os) f = (f p (if_pos (channel_discrete p p) refl true (elem p os)), all_by P os (λ o e. f o (elem_more o p os e)))
 
-pub elem_other : (o : Channel) (os : List Channel) → All (λ p. p ≢ o) os → elem o os ≡ false
+pub elem_other : (o : Channel) (os : List Channel) → AllByRecursion (λ p. p ≢ o) os → elem o os ≡ false
 unfolding elem
 elem_other o [] a = refl
 elem_other o (p ∷ os) a = if_neg (channel_discrete o p) (λ e. a.0 (sym e)) true (elem o os) ∙ elem_other o os a.1

@@ -1,5 +1,6 @@
 -- The state of the tree and the network with its history: when they match, and that a fire keeps them so.
 use Rattle.std.proofs.Common.{◌≡◌, ℕ, ◌<◌, Bool, true, false, cond, not, ◌&&◌, leb, ◌≢◌, ◌⊎◌, List, [], ◌∷◌, ◌++◌, length, Some, None, Ok, Err, Option, Result, sym, refl, ap, ◌∙◌, ap₂, inl, inr, append-nil, arith}
+use Rattle.std.specs.List.{AllByRecursion}
 use Rattle.std.specs.Option.{option_map}
 use Rattle.std.proofs.lemmas.Option.{same_Some}
 use Rattle.std.proofs.lemmas.Bool.{and_parts, not-true}
@@ -34,7 +35,7 @@ use Rattle.network.proofs.Preserve.{all_send, holder_tail, passed-at, passed_out
 use Rattle.network.proofs.HistoryLaws.{Good, admitted, outs_of_distinct}
 use Rattle.network.proofs.Stands.{after_map, delivers-map, held_for, held_for-map, leaves_map, map_hold, outs-map, phase_for, stands, stands_by}
 use Rattle.network.proofs.Table.{boxed_hold, boxed_inbox, boxed-length, boxed-reads, inbox_at, pour, pour_hold, pour_inbox, pour-length, pour_other, pour-rest, stand, stand_inbox, stand-length, stand_other, stand-reads, stand_same, write_all, writes, writes_keep}
-use Rattle.network.proofs.Outputs.{All, all_map, all_map₂}
+use Rattle.network.proofs.Outputs.{all_map, all_map₂}
 use Rattle.network.proofs.Ranks.{Out, outs_of_lower, target-known}
 use Rattle.network.proofs.Writes.{consumed_is, hold_is, inbox_taken_lem, kept_is, link_taken_lem, passed_is, waiting_is, written_is}
 
@@ -54,7 +55,7 @@ unfolding fits is_empty
 fits-later [] w e f = absurd (grind arith)
 fits-later (h ∷ q) w e f = not-true (is_head_word w) f
 
-pub clear_all : (f : Channel → List ℕ) (os : List Channel) → all_clear f os ≡ true → All (λ o. f o ≡ []) os
+pub clear_all : (f : Channel → List ℕ) (os : List Channel) → all_clear f os ≡ true → AllByRecursion (λ o. f o ≡ []) os
 unfolding all_clear is_empty
 clear_all f [] e = tt
 clear_all f (o ∷ os) e = (nil (f o) (and_parts _ _ e).0, clear_all f os (and_parts (is_empty (f o)) _ e).1)
@@ -214,7 +215,7 @@ module _
     inside : number o < length x₁
     inside = let f = L.few in rw (boxes.0, M.size) (omega arith)
 
-    known : All (λ p. number p < length x₁) os
+    known : AllByRecursion (λ p. number p < length x₁) os
     known = all_map (Out W s) _ (λ p l. let f = L.few in let k = l.known in rw (boxes.0, M.size) (omega arith)) os (outs_of_lower W L s (q ++ (w ∷ [])) (target-known W L o hn))
 
     chan₁ : (p : Channel) → reads x₁ p ≡ y.chan p
@@ -228,7 +229,7 @@ module _
         ]
 
     module _ (cl : all_clear y.chan os ≡ true) where
-      ready : All (λ p. (number p < length x₂) × (reads x₂ p ≡ [])) os
+      ready : AllByRecursion (λ p. (number p < length x₂) × (reads x₂ p ≡ [])) os
       ready =
           all_map₂ _ _ _ (λ p l t. (rw (pour-length x₁ o ws) (l), t)) os known
           (all_map₂ _ _ _ (λ p u v. pour_other x₁ o p ws inside u.other ∙ chan₁ p ∙ v) os

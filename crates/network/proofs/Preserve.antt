@@ -1,5 +1,6 @@
 -- A granted fire keeps the invariant of the channels.
 use Rattle.std.proofs.Common.{◌≡◌, ℕ, ◌<◌, Bool, true, false, cond, ◌≢◌, ◌⊎◌, List, [], ◌∷◌, ◌++◌, Some, None, Option, sym, refl, ap, ◌∙◌, subst, inl, inr, arith}
+use Rattle.std.specs.List.{AllByRecursion}
 use Rattle.std.proofs.lemmas.Bool.{and_parts, and_from}
 use Rattle.packet.specs.Packets.{is_tail_word}
 use Rattle.wiring.specs.Shapes.{Shape}
@@ -13,7 +14,7 @@ use Rattle.network.proofs.Flow.{Flow, fits, holder, is_empty, pass, shape}
 use Rattle.network.proofs.Invariant.{Inv, all_by, all_elem, elem, elem_other, feeder, push_all_in, push_all_out, sending, sending_from}
 use Rattle.network.proofs.UnderWay.{leaves, moved, next, outs_of, rest}
 use Rattle.network.proofs.Feeders.{feeder-above, moved-fits, moved-next, outs_of_fed, outs_of_more}
-use Rattle.network.proofs.Outputs.{All, all_map}
+use Rattle.network.proofs.Outputs.{all_map}
 use Rattle.network.proofs.Ranks.{Out, outs_of_lower, rank, target-known}
 
 nil_either : (b : Bool) (r : List ℕ) → r ≡ [] → [] ≡ cond b (moved r) []
@@ -79,7 +80,7 @@ module _
       ways (Some j) e = let m : j ≢ i = λ p. n (sym (I.home t j e) ∙ ap (target W) p) in simp (put_other, m)
 
   -- the outputs are no inputs of s
-  ne : All (λ o. o ≢ i) os
+  ne : AllByRecursion (λ o. o ≢ i) os
   ne = all_map (Out W s) _ (λ o l p. let t : rank W (target W o) < rank W (target W i) = l.lower in let u : rank W (target W o) ≡ rank W (target W i) = ap (λ (o : Channel). rank W (target W o)) p in omega arith) os (outs_of_lower W L s (q ++ (w ∷ [])) (target-known W L i known))
 
   pub sends : (o : Channel) → feeder W o ≡ Some s → rest (x.passed o) (x.chan o) ≡ cond (elem o os) (moved q) []
@@ -204,7 +205,7 @@ module _
   pub inv_kept : Distinct os → Inv W x'
   inv_kept d = record { quiet = quiet'; home = home'; begun = begun'; links = links' d }
 
-  pub all_send : All (SendsInto W x i q) os
+  pub all_send : AllByRecursion (SendsInto W x i q) os
   all_send =
       all_by (SendsInto W x i q) os
       (λ o e.

@@ -1,5 +1,6 @@
 -- Where a word waits, some fire is granted, or refused for a full inbox alone.
 use Rattle.std.proofs.Common.{◌≡◌, ℕ, zero, suc, ◌+◌, ◌<◌, ◌≤◌, Bool, true, false, cond, ◌&&◌, ◌⊎◌, List, [], ◌∷◌, ◌++◌, Some, None, Option, sym, refl, ap, ◌∙◌, inl, inr, arith}
+use Rattle.std.specs.List.{AllByRecursion}
 use Rattle.std.proofs.lemmas.Bool.{and_parts}
 use mathlib.Core.Logic.{if_neg, if_pos}
 use Rattle.refusal.specs.declared.drive.FireFault.{FireFault}
@@ -16,7 +17,7 @@ use Rattle.network.proofs.Channels.{Rooted, channel_discrete}
 use Rattle.network.proofs.Feeders.{outs_of_more}
 use Rattle.network.proofs.Flow.{Flow, admits, all_clear, fits, is_empty, refusal, refusal_at, refusal_by, shape}
 use Rattle.network.proofs.Invariant.{Inv, all_elem, elem, elem_more, fall_from, feeder, feeder_by, sending, sending_from}
-use Rattle.network.proofs.Outputs.{All, outs_of_each}
+use Rattle.network.proofs.Outputs.{outs_of_each}
 use Rattle.network.proofs.UnderWay.{moved, outs_of, rest, next}
 
 pub front : (l : List ℕ) → (l ≡ []) ⊎ ((w : ℕ) × (ws : List ℕ) × (l ≡ w ∷ ws))
@@ -146,7 +147,7 @@ module _ (W : Shape) (L : Rooted W) (P : Verdicts) (x : Flow) (I : Inv W x) (S :
   step_down _ _ _ c z (descends d e g t f) = let y : d ≡ c = cc in rw (← y) (falls d e (side_of (top_bit g)) f)
   step_down _ _ _ c z (spreads b d e g t u f) = let y : d ≡ c = cc in rw (← y) (falls d e b f)
 
-  down_outs : (c : ℕ) (q : List ℕ) → All (Below c) (outs_of W (down c) q)
+  down_outs : (c : ℕ) (q : List ℕ) → AllByRecursion (Below c) (outs_of W (down c) q)
   down_outs c q = outs_of_each W (Below c) (down c) q (λ g o t. step_down (down c) g o c refl t)
 
   down_inputs : (k : Channel) (c : ℕ) → target W k ≡ down c → (k ≡ TurnLink c) ⊎ (k ≡ DownLink c)
@@ -249,7 +250,7 @@ module _ (W : Shape) (L : Rooted W) (P : Verdicts) (x : Flow) (I : Inv W x) (S :
   step_up _ _ _ c z (descends d e g t f) = absurd (grind arith)
   step_up _ _ _ c z (spreads b d e g t u f) = absurd (grind arith)
 
-  up_outs : (c : ℕ) (q : List ℕ) → All (Above c) (outs_of W (up c) q)
+  up_outs : (c : ℕ) (q : List ℕ) → AllByRecursion (Above c) (outs_of W (up c) q)
   up_outs c q = outs_of_each W (Above c) (up c) q (λ g o t. step_up (up c) g o c refl t)
 
   up_full_step : (c : ℕ) → ((p : ℕ) (i : Channel) → p < c → target W i ≡ up p → is_empty (x.chan i) ≡ false → Moving) →

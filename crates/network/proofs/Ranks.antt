@@ -1,5 +1,6 @@
 -- Each channel leads to a station of lower rank, so weights do not depend on the fuel.
 use Rattle.std.proofs.Common.{◌≡◌, ℕ, zero, suc, ◌+◌, ◌-◌, ◌<◌, ◌≤◌, List, Some, None, Option, refl, ap, arith}
+use Rattle.std.specs.List.{AllByRecursion}
 use Rattle.packet.specs.Routes.{side_of, top_bit}
 use Rattle.packet.specs.declared.sides.Side.{Side}
 use Rattle.wiring.specs.Shapes.{Shape}
@@ -8,7 +9,7 @@ use Rattle.station.specs.declared.channel.Channel.TheVariants.{DownLink, Queued,
 use Rattle.network.specs.Nodes.{Node, above, card_of, card_or_zero, down, number, target, up}
 use Rattle.network.specs.Paths.{Step, climbs, descends, spreads, turns}
 use Rattle.network.proofs.Channels.{Rooted}
-use Rattle.network.proofs.Outputs.{All, all_map, outs_of_each, sum_over_same}
+use Rattle.network.proofs.Outputs.{all_map, outs_of_each, sum_over_same}
 use Rattle.network.proofs.UnderWay.{moved, outs_of, weight}
 
 -- how many stations can follow, this one counted
@@ -33,7 +34,7 @@ module _ (W : Shape) (L : Rooted W) where
   step_lower _ _ _ l (descends c d g t e) = falls c d (side_of (top_bit g)) e
   step_lower _ _ _ l (spreads b c d g t f e) = falls c d b e
 
-  pub outs_of_lower : (s : Node) (q : List ℕ) → card_of s < W.cards → All (Out W s) (outs_of W s q)
+  pub outs_of_lower : (s : Node) (q : List ℕ) → card_of s < W.cards → AllByRecursion (Out W s) (outs_of W s q)
   outs_of_lower s q l = outs_of_each W (Out W s) s q (λ g o t. step_lower s g o l t)
 
   pub target-known : (o : Channel) → number o < W.cards → card_of (target W o) < W.cards

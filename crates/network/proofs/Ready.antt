@@ -1,5 +1,6 @@
 -- A channel with words in it is the input of some station.
 use Rattle.std.proofs.Common.{◌≡◌, ℕ, ◌<◌, Bool, true, false, ◌&&◌, ltb, ◌⊎◌, List, [], ◌∷◌, ◌++◌, Some, None, Err, sym, refl, ap, ◌∙◌, subst, inl, inr, arith}
+use Rattle.std.specs.List.{AllByRecursion}
 use Rattle.refusal.specs.declared.drive.FireFault.{FireFault}
 use Rattle.refusal.specs.declared.drive.FireFault.TheVariants.{InboxFull}
 use Rattle.packet.specs.Routes.{side_of, top_bit}
@@ -26,7 +27,7 @@ use Rattle.network.proofs.History.{Event, History, happens, is_none, moving, pas
 use Rattle.network.proofs.HistoryLaws.{Good, Granted, fire_is, progress_law, run_good}
 use Rattle.network.proofs.Invariant.{all_elem, elem}
 use Rattle.network.proofs.Match.{Beside}
-use Rattle.network.proofs.Outputs.{All, outs_of_each}
+use Rattle.network.proofs.Outputs.{outs_of_each}
 use Rattle.network.proofs.OwedLoad.{owed_load}
 use Rattle.network.proofs.Preserve.{chan_out}
 use Rattle.network.proofs.Ranks.{target-known}
@@ -57,7 +58,7 @@ module _ (W : Shape) (L : Rooted W) (P : Verdicts) where
   step_real _ _ _ (descends c d g t e) = falls c d (side_of (top_bit g)) e
   step_real _ _ _ (spreads b c d g t f e) = falls c d b e
 
-  outs_real : (s : Node) (q : List ℕ) → All (Real W) (outs_of W s q)
+  outs_real : (s : Node) (q : List ℕ) → AllByRecursion (Real W) (outs_of W s q)
   outs_real s q = outs_of_each W (Real W) s q (step_real s)
 
   abbrev All-real : Flow → Type 0

@@ -1,5 +1,6 @@
 -- The list of cards: what is read after a write.
 use Rattle.std.proofs.Common.{◌≡◌, ℕ, ◌<◌, ◌≢◌, List, [], ◌∷◌, ◌++◌, length, Some, None, Option, sym, refl, ap, ◌∙◌, arith, length-set, get_or-set_other, get_or-set_same}
+use Rattle.std.specs.List.{AllByRecursion}
 use mathlib.Core.Path.{fun_ext}
 use native.Mathlib.Decide.{ℕ_discrete}
 use Rattle.station.specs.declared.channel.Channel.{Channel}
@@ -14,7 +15,7 @@ use Rattle.network.proofs.Channels.{channel_discrete}
 use Rattle.network.proofs.Conserve.{Distinct}
 use Rattle.network.proofs.Flow.{push_all}
 use Rattle.network.proofs.UnderWay.{put}
-use Rattle.network.proofs.Outputs.{All, all_map, all_map₂}
+use Rattle.network.proofs.Outputs.{all_map, all_map₂}
 
 -- one card changed
 unfoldable pub change : State → ℕ → (Card → Card) → State
@@ -152,7 +153,7 @@ pour_inbox x o l c h = change-part (λ k. k.inbox) x (number o) c (filled o l) h
     same (DownLink d) k = refl
 
 -- writing to free links
-pub writes : (os : List Channel) (x : State) (w : ℕ) → Distinct os → All (λ o. (number o < length x) × (reads x o ≡ [])) os → (p : Channel) → reads (write_all x os w) p ≡ push_all os w (reads x) p
+pub writes : (os : List Channel) (x : State) (w : ℕ) → Distinct os → AllByRecursion (λ o. (number o < length x) × (reads x o ≡ [])) os → (p : Channel) → reads (write_all x os w) p ≡ push_all os w (reads x) p
 unfolding write_all push_all
 writes [] x w d a p = refl
 writes (o ∷ os) x w d a p =
@@ -162,11 +163,11 @@ writes (o ∷ os) x w d a p =
       | yes e ↦ rw (e, put_same channel_discrete (reads x) o (reads x o ++ (w ∷ [])), pour_same x o (w ∷ []) a.0.0, keeps-one o w, a.0.1)
       | no n ↦ pour_other x o q (w ∷ []) a.0.0 n ∙ sym (put_other channel_discrete (reads x) o (reads x o ++ (w ∷ [])) q n)
     ] in
-    let later : All (λ o. (number o < length y) × (reads y o ≡ [])) os =
+    let later : AllByRecursion (λ o. (number o < length y) × (reads y o ≡ [])) os =
     all_map₂ _ _ _ (λ q n m. (rw (pour-length x o (w ∷ [])) m.0, pour_other x o q (w ∷ []) a.0.0 n ∙ m.1)) os d.0 a.1 in
     writes os y w d.1 later p ∙ ap (λ (f : Channel → List ℕ). push_all os w f p) (fun_ext same)
 
-pub writes_keep : (os : List Channel) (x : State) (w : ℕ) → All (λ o. number o < length x) os →
+pub writes_keep : (os : List Channel) (x : State) (w : ℕ) → AllByRecursion (λ o. number o < length x) os →
     (length (write_all x os w) ≡ length x) × ((s : Node) → hold_of (write_all x os w) s ≡ hold_of x s) × ((c : ℕ) → inbox_at (write_all x os w) c ≡ inbox_at x c)
 unfolding write_all
 writes_keep [] x w a = (refl, λ s. refl, λ c. refl)
