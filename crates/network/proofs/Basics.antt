@@ -106,6 +106,11 @@ sum_channels-at n (DownLink c) f g h e =
     let s = sums_at n c (DownLink c) f g refl h e in
     omega (arith, e (UpLink c) (apart (omega arith)), e (TurnLink c) (apart (omega arith)), e (Queued c) (apart (omega arith)))
 
+-- the first word of a channel fits
+pub first_fits : (q l : List ℕ) (w : ℕ) (ws : List ℕ) → l ≡ w ∷ ws → shape q l ≡ true → fits q w ≡ true
+unfolding shape
+first_fits q l w ws e s = (and_parts _ (shape (next q w) ws) (sym (ap (shape q) e) ∙ s)).0
+
 pub shape-append : (q ws vs : List ℕ) → shape q ws ≡ true → shape (rest q ws) vs ≡ true → shape q (ws ++ vs) ≡ true
 unfolding rest shape
 shape-append q [] vs a b = b

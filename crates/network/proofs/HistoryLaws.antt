@@ -3,7 +3,7 @@ use Rattle.std.proofs.Common.{◌≡◌, ℕ, ◌+◌, ◌*◌, ◌<◌, Bool, t
 use Rattle.std.proofs.lemmas.Bool.{and_parts, and_from, not-true}
 use mathlib.Core.Logic.{if_neg}
 use Rattle.refusal.specs.declared.drive.FireFault.{FireFault}
-use Rattle.refusal.specs.declared.drive.FireFault.TheVariants.{HeldByOther, NothingWaits}
+use Rattle.refusal.specs.declared.drive.FireFault.TheVariants.{HeldByOther, NothingWaits, LinkOccupied}
 use Rattle.packet.specs.Packets.{is_head_word, is_tail_word}
 use Rattle.wiring.specs.Shapes.{Shape}
 use Rattle.station.specs.Plans.{Verdicts}
@@ -14,7 +14,7 @@ use Rattle.network.specs.Sums.{sum_over}
 use Rattle.network.proofs.Basics.{along-append, put_other, put_same, rest-append, shape-append, sum_none, sum_some, sum_channels-at, next_end, next_not}
 use Rattle.network.proofs.Channels.{Rooted, channel_discrete}
 use Rattle.network.proofs.Conserve.{Distinct, pass-load}
-use Rattle.network.proofs.Flow.{Flow, admits, fired, fired_by, fits, is_empty, load, pass, refusal, refusal_at, refusal_by, shape}
+use Rattle.network.proofs.Flow.{Flow, admits, fired, fired_by, fits, is_empty, load, pass, refusal, refusal_at, refusal_by, shape, all_clear}
 use Rattle.network.proofs.History.{Event, History, HistoryHops, HistoryProgress, ends, happens, hops, is_none, is_packet, moving, none_yet, one, past, queued, queueing, resting, sendable, step_fire, step_send, taking, took_by}
 use Rattle.network.proofs.Invariant.{Inv, feeder, sending, sending_from}
 use Rattle.network.proofs.UnderWay.{along, outs_of, rest, waiting}
@@ -43,6 +43,14 @@ packet_parts h ws e =
     let (s, r) = and_parts (is_head_word h && not (is_tail_word h)) _ e in
     let (i, t) = and_parts (is_head_word h) _ s in
     (i, not-true _ t, r)
+
+-- the tests that a fire has passed that is not refused
+pub unrefused : (f a b : Bool) (k : Option FireFault) →
+    cond (not f) (Some NothingWaits) (cond (not a) (Some HeldByOther) (cond (not b) (Some LinkOccupied) k)) ≡ None → (a ≡ true) × (b ≡ true) × (k ≡ None)
+unrefused true true true k e = (refl, refl, e)
+unrefused true true false k e = absurd (grind arith)
+unrefused true false b k e = absurd (grind arith)
+unrefused false a b k e = absurd (grind arith)
 
 pub none_is : (r : Option FireFault) → is_none r ≡ true → r ≡ None
 unfolding is_none
@@ -175,11 +183,6 @@ module _ (W : Shape) (L : Rooted W) (P : Verdicts) where
         | no n ↦ absurd (let z = if_neg (channel_discrete i j) n true false in grind arith)
       ]
 
-  not_refused : (a b : Bool) (r s : FireFault) (k : Option FireFault) → cond (not a) (Some r) (cond (not b) (Some s) k) ≡ None → b ≡ true
-  not_refused true true r s k e = refl
-  not_refused true false r s k e = absurd (grind arith)
-  not_refused false b r s k e = absurd (grind arith)
-
   pub granted : (x : Flow) (i : Channel) → refusal W P x i ≡ None → Granted x i
   unfolding refusal refusal_by refusal_at fired fired_by
   granted x i e = ways (x.chan i) refl
@@ -188,7 +191,8 @@ module _ (W : Shape) (L : Rooted W) (P : Verdicts) where
       ways [] f = absurd (let z : refusal_by W P x i [] ≡ None = sym (ap (refusal_by W P x i) f) ∙ e in grind arith)
       ways (w ∷ ws) f =
           let z : refusal_by W P x i (w ∷ ws) ≡ None = sym (ap (refusal_by W P x i) f) ∙ e in
-          record { w = w; ws = ws; front = f; takes = admitted (x.source (target W i)) i (not_refused (fits (x.passed i) w) _ NothingWaits HeldByOther _ z); result = rw (f, z) }
+          let a = (unrefused (fits (x.passed i) w) (admits (x.source (target W i)) i) (all_clear x.chan (outs_of W (target W i) (x.passed i ++ (w ∷ [])))) _ z).0 in
+          record { w = w; ws = ws; front = f; takes = admitted (x.source (target W i)) i a; result = rw (f, z) }
 
   pub outs_of_distinct : (s : Node) (q : List ℕ) → Distinct (outs_of W s q)
   unfolding outs_of

@@ -22,10 +22,10 @@ use Rattle.network.specs.Cards.{State, inbox_room, oldest}
 use Rattle.network.specs.Fires.{Fired, and_then, carried, carry, clear, consumed, kept, passed, passing, waiting_at, waits_by, written}
 use Rattle.network.specs.Nodes.{Node, card_of, input_of, number, station_of, target}
 use Rattle.network.specs.Owed.{hold_of, reads}
-use Rattle.network.proofs.Basics.{put_other, put_same, next_end}
+use Rattle.network.proofs.Basics.{put_other, put_same, next_end, first_fits}
 use Rattle.network.proofs.Channels.{Rooted, channel_discrete, node_discrete}
 use Rattle.network.proofs.Delivery.{Brings, delivered}
-use Rattle.network.proofs.Flow.{Flow, admits, all_clear, fired, fired_by, fits, holder, is_empty, pass, push_all, refusal, refusal_at, refusal_by, shape}
+use Rattle.network.proofs.Flow.{Flow, admits, all_clear, fired, fired_by, fits, holder, is_empty, pass, push_all, refusal, refusal_at, refusal_by}
 use Rattle.network.proofs.Inputs.{input_same, same_input_not, same_input_self}
 use Rattle.network.proofs.UnderWay.{delivers, leaves, next, outs_of, put}
 use Rattle.network.proofs.StationParts.{delivers_by, hold_after, leaves_by, outs_by}
@@ -334,7 +334,7 @@ module _
   fires z = and_then x (waits_by z) (λ w. passing W P x (card_of s) (station_of s) i o w)
 
   pub beside : Beside W P x y o (fires (waiting_at x o))
-  unfolding refusal refusal_by shape fired fired_by
+  unfolding refusal refusal_by fired fired_by
   beside = rw (waiting_is x o ∙ ap oldest (M.chan o)) (ways (y.chan o) refl)
     where
       ways : (l : List ℕ) → y.chan o ≡ l → Beside W P x y o (fires (oldest l))
@@ -342,7 +342,7 @@ module _
       ways (w ∷ ws) e = rw (hold_is x s) (by (admits (y.source s) o) refl)
         where
           f : fits q w ≡ true
-          f = (and_parts _ (shape (next q w) ws) (sym (ap (shape q) e) ∙ G.shaped o)).0
+          f = first_fits q (y.chan o) w ws e (G.shaped o)
 
           out : Result (Unit {0}) FireFault → Fired
           out m = and_then x m (λ _. carry x (card_of s) (station_of s) i o w (planned W P (card_of s) (station_of s) d w))

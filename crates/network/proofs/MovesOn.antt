@@ -1,7 +1,7 @@
 -- A granted fire moves one word of a sent packet one station on along the packet's path.
-use Rattle.std.proofs.Common.{◌≡◌, ℕ, ◌<◌, Bool, true, false, cond, not, ◌&&◌, ltb, List, [], ◌∷◌, ◌++◌, length, get_or, Some, None, Ok, Err, Option, sym, refl, ap, ◌∙◌, subst, ap₂, inl, inr, arith, length-append, ltb-true}
+use Rattle.std.proofs.Common.{◌≡◌, ℕ, ◌<◌, Bool, true, false, ◌&&◌, ltb, List, [], ◌∷◌, ◌++◌, length, get_or, Some, None, Ok, Err, Option, sym, refl, ap, ◌∙◌, subst, ap₂, inl, inr, arith, length-append, ltb-true}
 use Rattle.refusal.specs.declared.drive.FireFault.{FireFault}
-use Rattle.refusal.specs.declared.drive.FireFault.TheVariants.{HeldByOther, LinkOccupied, NoCard, NoInput, NothingWaits}
+use Rattle.refusal.specs.declared.drive.FireFault.TheVariants.{NoCard, NoInput}
 use Rattle.packet.specs.Routes.{advance}
 use Rattle.wiring.specs.Shapes.{Shape}
 use Rattle.station.specs.Plans.{Verdicts}
@@ -21,7 +21,7 @@ use Rattle.network.proofs.Channels.{Rooted, channel_discrete, rooted}
 use Rattle.network.proofs.Conserve.{SendsInto, moved_push}
 use Rattle.network.proofs.Flow.{Flow, admits, all_clear, fired, fits, pass, refusal, refusal_at, refusal_by}
 use Rattle.network.proofs.History.{Event, History, happens, is_none, is_packet, moving, past, queued, queueing, resting, sendable, step_fire, step_send, taking, took_by}
-use Rattle.network.proofs.HistoryLaws.{Good, Granted, fire_is, granted, outs_of_distinct, run_good, sendable_is}
+use Rattle.network.proofs.HistoryLaws.{Good, Granted, fire_is, granted, outs_of_distinct, run_good, sendable_is, unrefused}
 use Rattle.network.proofs.Invariant.{all_elem, elem, elem_other, feeder, push_all_in, push_all_out, sending}
 use Rattle.network.proofs.Inputs.{input_known}
 use Rattle.network.proofs.Match.{Beside, clear_all}
@@ -71,16 +71,10 @@ outs_comes W n (h ∷ q) w others g later e = let a : h ≡ g = cc in ap (outs W
 clear_at : (f : Channel → List ℕ) (os : List Channel) (o : Channel) → all_clear f os ≡ true → elem o os ≡ true → f o ≡ []
 clear_at f os o a e = all_elem (λ o. f o ≡ []) o os (clear_all f os a) e
 
-third : (a b c : Bool) (r s t : FireFault) (k : Option FireFault) → cond (not a) (Some r) (cond (not b) (Some s) (cond (not c) (Some t) k)) ≡ None → c ≡ true
-third true true true r s t k e = refl
-third true true false r s t k e = absurd (grind arith)
-third true false c r s t k e = absurd (grind arith)
-third false b c r s t k e = absurd (grind arith)
-
 granted-clear : (W : Shape) (P : Verdicts) (x : Flow) (i : Channel) (w : ℕ) (ws : List ℕ) → x.chan i ≡ w ∷ ws → refusal W P x i ≡ None → all_clear x.chan (outs_of W (target W i) (x.passed i ++ (w ∷ []))) ≡ true
 unfolding refusal refusal_by refusal_at
 granted-clear W P x i w ws f e =
-    third (fits (x.passed i) w) (admits (x.source (target W i)) i) _ NothingWaits HeldByOther LinkOccupied _ (sym (ap (refusal_by W P x i) f) ∙ e)
+    (unrefused (fits (x.passed i) w) (admits (x.source (target W i)) i) _ _ (sym (ap (refusal_by W P x i) f) ∙ e)).1
 
 module _ (W : Shape) (L : Rooted W) (P : Verdicts) where
   -- every word in every channel is a word of a packet of S, on its path

@@ -1,7 +1,7 @@
 -- Where a word waits, some fire is granted, or refused for a full inbox alone.
 use Rattle.std.proofs.Common.{◌≡◌, ℕ, zero, suc, ◌+◌, ◌<◌, ◌≤◌, Bool, true, false, cond, ◌&&◌, ◌⊎◌, List, [], ◌∷◌, ◌++◌, Some, None, Option, sym, refl, ap, ◌∙◌, inl, inr, arith}
+use Rattle.network.proofs.Basics.{first_fits}
 use Rattle.std.specs.List.{AllByRecursion}
-use Rattle.std.proofs.lemmas.Bool.{and_parts}
 use mathlib.Core.Logic.{if_neg, if_pos}
 use Rattle.refusal.specs.declared.drive.FireFault.{FireFault}
 use Rattle.refusal.specs.declared.drive.FireFault.TheVariants.{InboxFull}
@@ -18,7 +18,7 @@ use Rattle.network.proofs.Feeders.{outs_of_more}
 use Rattle.network.proofs.Flow.{Flow, admits, all_clear, fits, is_empty, refusal, refusal_at, refusal_by, shape}
 use Rattle.network.proofs.Invariant.{Inv, all_elem, elem, elem_more, fall_from, feeder, feeder_by, sending, sending_from}
 use Rattle.network.proofs.Outputs.{outs_of_each}
-use Rattle.network.proofs.UnderWay.{moved, outs_of, rest, next}
+use Rattle.network.proofs.UnderWay.{moved, outs_of, rest}
 
 pub front : (l : List ℕ) → (l ≡ []) ⊎ ((w : ℕ) × (ws : List ℕ) × (l ≡ w ∷ ws))
 front [] = inl refl
@@ -55,9 +55,9 @@ module _ (W : Shape) (L : Rooted W) (P : Verdicts) (x : Flow) (I : Inv W x) (S :
 
   go : (i : Channel) (w : ℕ) (ws : List ℕ) → x.chan i ≡ w ∷ ws → admits (x.source (target W i)) i ≡ true →
       all_clear x.chan (outs_of W (target W i) (x.passed i ++ (w ∷ []))) ≡ true → Moving
-  unfolding refusal refusal_by refusal_at shape
+  unfolding refusal refusal_by refusal_at
   go i w ws e a c =
-      let f : fits (x.passed i) w ≡ true = (and_parts _ (shape (next (x.passed i) w) ws) (sym (ap (shape (x.passed i)) e) ∙ S i)).0 in
+      let f : fits (x.passed i) w ≡ true = first_fits (x.passed i) (x.chan i) w ws e (S i) in
       (i, known i w ws e, rw (e, f, a, c) (last _))
 
   -- a station that is held for an empty channel is being sent to

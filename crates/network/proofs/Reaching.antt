@@ -1,5 +1,7 @@
 -- The path of a sent packet has the route at an end on exactly the cards that the packet reaches.
 use Rattle.std.proofs.Common.{◌≡◌, ℕ, zero, suc, ◌*◌, ◌<◌, Bool, true, false, cond, ◌||◌, eqb, List, [], ◌∷◌, length, Some, None, Ok, Err, Option, Result, sym, refl, ap, ◌∙◌, subst, arith, eq-eqb, eqb-true}
+use Rattle.std.proofs.lemmas.Option.{some_pair_parts}
+use Rattle.network.proofs.TripWeights.{further_is}
 use Rattle.refusal.specs.declared.send.PacketFault.{PacketFault}
 use Rattle.packet.proofs.Moving.{floods-kept, stops-kept}
 use Rattle.packet.specs.Heads.{floods, mode_of}
@@ -25,9 +27,7 @@ use Rattle.network.proofs.Trip.{further, go_on, trip}
 module _ (W : Shape) (L : Rooted W) where
   -- one station less
   further_back : (m : Option (ℕ × ℕ)) (n t : ℕ) → further m ≡ Some (n, t) → (k : ℕ) × (m ≡ Some (k, t))
-  unfolding further
-  further_back None n t e = absurd (grind arith)
-  further_back (Some (k, u)) n t e = let q : ◌≡◌ {A = ℕ × ℕ} (suc k, u) (n, t) = cc in (k, ap (λ (z : ℕ). Some (k, z)) (ap (λ (z : ℕ × ℕ). z.1) q))
+  further_back m n t e = let (k, q, z) = further_is m n t e in (k, z)
 
   go_on_back : (f : ℕ → Option (ℕ × ℕ)) (o : Option ℕ) (n t : ℕ) → go_on f o ≡ Some (n, t) → (d : ℕ) × (o ≡ Some d) × (k : ℕ) × (f d ≡ Some (k, t))
   unfolding go_on
@@ -52,8 +52,7 @@ module _ (W : Shape) (L : Rooted W) where
   stop_on zero c g n t b e = absurd (grind arith)
   stop_on (suc k) c g n t b e =
       let z : ◌≡◌ {A = Option (ℕ × ℕ)} (Some (0, c)) (Some (n, t)) = sym (rw b) ∙ e in
-      let q : ◌≡◌ {A = ℕ × ℕ} (0, c) (n, t) = cc in
-      ap (λ (z : ℕ × ℕ). z.1) q
+      (some_pair_parts _ _ _ _ z).1
 
   -- where the channels lead
   to_parent : (d p : ℕ) → above W d ≡ Some p → target W (UpLink d) ≡ up p

@@ -2,7 +2,7 @@
 use Rattle.std.proofs.Common.{◌≡◌, ℕ, ◌+◌, ◌≤◌, Bool, true, false, cond, not, ◌&&◌, ltb, leb, List, [], ◌∷◌, ◌++◌, length, Some, None, Ok, Err, Result, sym, refl, ap, ◌∙◌, inl, inr, arith, length-append, leb-false}
 use Rattle.std.proofs.lemmas.Bool.{and_parts, false_from_ne_true}
 use native.Mathlib.Decide.{ℕ_discrete}
-use Rattle.refusal.specs.declared.drive.FireFault.TheVariants.{HeldByOther, InboxFull, LinkOccupied, NothingWaits}
+use Rattle.refusal.specs.declared.drive.FireFault.TheVariants.{InboxFull}
 use Rattle.refusal.specs.declared.send.PacketFault.{PacketFault}
 use Rattle.wiring.specs.Shapes.{Shape}
 use Rattle.station.specs.Plans.{Verdicts}
@@ -17,7 +17,7 @@ use Rattle.network.proofs.Delivery.{Brings, delivered}
 use Rattle.network.proofs.Feeders.{outs_of_fed}
 use Rattle.network.proofs.Flow.{Flow, admits, all_clear, fired, fits, is_empty, pass, refusal, refusal_at, refusal_by}
 use Rattle.network.proofs.History.{Event, History, happens, is_granted, is_none, moving, past, queued, queueing, resting, sendable, step_fire, step_send, taking, took_by}
-use Rattle.network.proofs.HistoryLaws.{Granted, fire_is, none_is}
+use Rattle.network.proofs.HistoryLaws.{Granted, fire_is, none_is, unrefused}
 use Rattle.network.proofs.Invariant.{all_elem, elem, feeder, push_all_out}
 use Rattle.network.proofs.Sendings.{sends_room}
 use Rattle.network.proofs.UnderWay.{delivers, leaves, outs_of, put}
@@ -69,12 +69,9 @@ took_room x c (w ∷ ws) e R = record { queues = R.queues; inboxes = inboxes }
         ]
 
 -- a fire that is not refused has room for what it leaves
-not_full : (f a b c : Bool) → cond (not f) (Some NothingWaits) (cond (not a) (Some HeldByOther) (cond (not b) (Some LinkOccupied) (cond c (Some InboxFull) None))) ≡ None → c ≡ false
-not_full true true true true e = absurd (grind arith)
-not_full true true true false e = refl
-not_full true true false c e = absurd (grind arith)
-not_full true false b c e = absurd (grind arith)
-not_full false a b c e = absurd (grind arith)
+not_full : (c : Bool) → cond c (Some InboxFull) None ≡ None → c ≡ false
+not_full true e = absurd (grind arith)
+not_full false e = refl
 
 brought_room : (w : ℕ) (b l : List ℕ) → Brings w l → length b ≤ inbox_room → not (is_empty l) && leb inbox_room (length b) ≡ false → length (b ++ l) ≤ inbox_room
 unfolding is_empty
@@ -101,7 +98,7 @@ module _ (W : Shape) (L : Rooted W) (P : Verdicts) where
     unfolding refusal refusal_by refusal_at
     room_here =
         let z : refusal_by W P x i (g.w ∷ g.ws) ≡ None = sym (ap (refusal_by W P x i) g.front) ∙ free in
-        not_full (fits q g.w) (admits (x.source s) i) (all_clear x.chan os) _ z
+        not_full _ (unrefused (fits q g.w) (admits (x.source s) i) (all_clear x.chan os) _ z).2
 
     -- no station sends into a queue
     not_into : (c : ℕ) → elem (Queued c) os ≡ false

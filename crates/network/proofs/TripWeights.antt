@@ -21,6 +21,11 @@ unfolding sum_over
 sum_over-append f [] ys = omega arith
 sum_over-append f (x ∷ xs) ys = let t = sum_over-append f xs ys in omega arith
 
+pub further_is : (t : Trip) (n c : ℕ) → further t ≡ Some (n, c) → (m : ℕ) × (n ≡ suc m) × (t ≡ Some (m, c))
+unfolding further
+further_is None n c e = absurd (grind arith)
+further_is (Some (m, d)) n c e = let (x, y) = some_pair_parts _ _ _ _ e in (m, sym x, ap (λ (z : ℕ). Some (m, z)) y)
+
 -- f looks at a head only as far as it stops and floods
 abbrev pub Alike : (Node → List ℕ → ℕ) → List ℕ → Type 0
 Alike f ws = (d g h : ℕ) → stops g ≡ true → stops h ≡ true → floods g ≡ floods h → f (down d) (g ∷ ws) ≡ f (down d) (h ∷ ws)
@@ -50,11 +55,6 @@ module _ (W : Shape) (f : Node → List ℕ → ℕ) (ws : List ℕ) (a : Alike 
   -- the value of f at each station before the terminus
   abbrev pub Passing : ℕ → Type 0
   Passing v = ((c h : ℕ) → f (up c) (h ∷ ws) ≡ v) × ((c h : ℕ) → stops h ≡ false → f (down c) (h ∷ ws) ≡ v)
-
-  pub further_is : (t : Trip) (n c : ℕ) → further t ≡ Some (n, c) → (m : ℕ) × (n ≡ suc m) × (t ≡ Some (m, c))
-  unfolding further
-  further_is None n c e = absurd (grind arith)
-  further_is (Some (m, d)) n c e = let (x, y) = some_pair_parts _ _ _ _ e in (m, sym x, ap (λ (z : ℕ). Some (m, z)) y)
 
   module _ (L : Rooted W) where
     subtree_stable : (k l c : ℕ) → c < W.cards → W.cards ≤ c + k → W.cards ≤ c + l → subtree W k c ≡ subtree W l c

@@ -1,6 +1,5 @@
 -- The stations that a route passes, one by one, are those of its climbs, its turn and its descents.
-use Rattle.std.proofs.Common.{◌≡◌, ℕ, zero, suc, ◌+◌, ◌<◌, ◌≤◌, Bool, true, false, cond, List, [], ◌∷◌, map, length, Some, None, Ok, Option, Result, sym, refl, ap, ◌∙◌, ap₂, arith}
-use Rattle.refusal.specs.declared.send.RouteFault.{RouteFault}
+use Rattle.std.proofs.Common.{◌≡◌, ℕ, zero, suc, ◌+◌, ◌<◌, ◌≤◌, Bool, true, false, cond, List, [], ◌∷◌, map, length, Some, None, Ok, Option, sym, refl, ap, ◌∙◌, ap₂, arith}
 use Rattle.packet.proofs.Moving.{low_stops, moved_bits, route_top, turn_one_pad, turn_stop_pad, ups_pad}
 use Rattle.packet.proofs.Reading.{one_zero, before_zero}
 use Rattle.packet.specs.Routes.{advance, after_turn, before_stop, has_one, low_bits, route_bits, side_of, stops, top_bit, ups_of}
@@ -15,9 +14,6 @@ module _ (W : Shape) (L : Rooted W) where
   -- the sides of a way down
   unfoldable pub sides_of : List Bool → List Side
   sides_of bs = map side_of (before_stop bs)
-
-  same_stop : {c t : ℕ} → ◌≡◌ {A = Result ℕ RouteFault} (Ok c) (Ok t) → c ≡ t
-  same_stop e = cc
 
   -- down from card c by the bits of h
   abbrev Down : ℕ → ℕ → ℕ → ℕ → Type 0
@@ -59,7 +55,8 @@ module _ (W : Shape) (L : Rooted W) where
       ways true s rec f =
           let z = sides_step h false (low_stops h true s) in
           let g : Ok c ≡ Ok t = sym (ap (λ (bs : List Side). descend W bs c) z) ∙ f in
-          rw z (ap (λ (t : ℕ). Some (0, t)) (same_stop g))
+          let q : c ≡ t = cc in
+          rw z (ap (λ (t : ℕ). Some (0, t)) q)
       ways false s rec f =
           let o = low_stops h false s in
           let z = sides_step h true o in

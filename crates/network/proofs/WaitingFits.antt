@@ -1,6 +1,6 @@
 -- A waiting word fits its station: a fire where a word waits is never refused for want of one, and so merge takes the word's kind.
 use Rattle.std.proofs.Common.{◌≡◌, ℕ, Bool, true, false, cond, not, ◌&&◌, leb, ◌≢◌, List, [], ◌∷◌, ◌++◌, length, Some, None, Err, Result, sym, refl, ap, ◌∙◌, inl, inr, arith, lt-ltb}
-use Rattle.std.proofs.lemmas.Bool.{and_parts}
+use Rattle.network.proofs.Basics.{first_fits}
 use Rattle.refusal.specs.declared.drive.FireFault.{FireFault}
 use Rattle.refusal.specs.declared.drive.FireFault.TheVariants.{HeldByOther, InboxFull, LinkOccupied, NothingWaits}
 use Rattle.packet.specs.Words.{kind_of}
@@ -21,13 +21,13 @@ use Rattle.network.specs.Nodes.{Node, card_of, target}
 use Rattle.network.specs.Runs.{run}
 use Rattle.network.specs.Trees.{Before, Orderly, OrderlyLaw, held_for}
 use Rattle.network.proofs.Channels.{Rooted, rooted}
-use Rattle.network.proofs.Flow.{Flow, admits, all_clear, fits, is_empty, refusal, refusal_at, refusal_by, shape}
+use Rattle.network.proofs.Flow.{Flow, admits, all_clear, fits, is_empty, refusal, refusal_at, refusal_by}
 use Rattle.network.proofs.History.{past}
 use Rattle.network.proofs.HistoryLaws.{Good, run_good}
 use Rattle.network.proofs.Inputs.{same_input_self}
 use Rattle.network.proofs.Match.{Beside, Matches}
 use Rattle.network.proofs.Simulate.{fire_beside, follows}
-use Rattle.network.proofs.UnderWay.{delivers, next, outs_of}
+use Rattle.network.proofs.UnderWay.{delivers, outs_of}
 use Rattle.network.proofs.Writes.{waiting_is}
 
 -- merge, by the word's kind
@@ -65,13 +65,13 @@ else_refused false a b c g e = grind arith
 
 module _ (W : Shape) (L : Rooted W) (P : Verdicts) (x : State) (y : Flow) (M : Matches W P x y) (G : Good W y) where
   not_for_want : (o : Channel) (w : ℕ) → waiting_at x o ≡ Some w → refusal W P y o ≢ Some NothingWaits
-  unfolding refusal refusal_by refusal_at shape
+  unfolding refusal refusal_by refusal_at
   not_for_want o w e r = ways (y.chan o) refl (sym (ap oldest (M.chan o)) ∙ sym (waiting_is x o) ∙ e) r
     where
       ways : (l : List ℕ) → y.chan o ≡ l → oldest l ≡ Some w → refusal_by W P y o (y.chan o) ≡ Some NothingWaits → ⊥
       ways [] f e r = grind arith
       ways (v ∷ ws) f e r =
-          let g : fits (y.passed o) v ≡ true = (and_parts _ (shape (next (y.passed o) v) ws) (sym (ap (shape (y.passed o)) f) ∙ G.shaped o)).0 in
+          let g : fits (y.passed o) v ≡ true = first_fits (y.passed o) (y.chan o) v ws f (G.shaped o) in
           let z : refusal_by W P y o (v ∷ ws) ≡ Some NothingWaits = sym (ap (refusal_by W P y o) f) ∙ r in
           let s : Node = target W o in
           let q : List ℕ = y.passed o in
