@@ -1,7 +1,7 @@
 -- A granted fire keeps the invariant of the channels.
 use Rattle.std.proofs.Common.{◌≡◌, ℕ, ◌<◌, Bool, true, false, cond, ◌≢◌, ◌⊎◌, List, [], ◌∷◌, ◌++◌, Some, None, Option, sym, refl, ap, ◌∙◌, subst, inl, inr, arith}
 use Rattle.std.specs.List.{AllByRecursion}
-use Rattle.std.proofs.lemmas.Bool.{and_parts, and_from}
+use Rattle.std.proofs.lemmas.Bool.{and_parts, and_from, false_from_ne_true}
 use Rattle.packet.specs.Packets.{is_tail_word}
 use Rattle.wiring.specs.Shapes.{Shape}
 use Rattle.station.specs.Plans.{Verdicts}
@@ -128,11 +128,7 @@ module _
       ]
 
   strange : (o : Channel) → feeder W o ≢ Some s → elem o os ≡ false
-  strange o n = ways (elem o os) refl
-    where
-      ways : (b : Bool) → elem o os ≡ b → elem o os ≡ false
-      ways true e = absurd (n (all_elem (λ o. feeder W o ≡ Some s) o os (outs_of_fed W L s (q ++ (w ∷ []))) e))
-      ways false e = e
+  strange o n = false_from_ne_true _ (λ e. n (all_elem (λ o. feeder W o ≡ Some s) o os (outs_of_fed W L s (q ++ (w ∷ []))) e))
 
   not_own : (o : Channel) → feeder W o ≡ Some s → o ≢ i
   not_own o f p = let t = feeder-above W L i s known (sym (ap (feeder W) p) ∙ f) in omega arith

@@ -1,5 +1,5 @@
 -- Every run of the machine has a run of the network with history beside it.
-use Rattle.std.proofs.Common.{◌≡◌, ℕ, zero, suc, ◌+◌, ◌<◌, Bool, true, false, cond, ◌&&◌, eqb, ltb, ◌≢◌, List, [], ◌∷◌, ◌++◌, length, get_or, replicate, Some, None, Ok, Err, Option, Result, sym, refl, ap, ◌∙◌, inl, inr, append-nil, arith, eq-eqb, ltb-true, eqb-true, lt-ltb}
+use Rattle.std.proofs.Common.{◌≡◌, ℕ, zero, suc, ◌+◌, ◌<◌, Bool, true, false, cond, ◌&&◌, eqb, ltb, List, [], ◌∷◌, ◌++◌, length, get_or, replicate, Some, None, Ok, Err, Option, Result, sym, refl, ap, ◌∙◌, inl, inr, append-nil, arith, eq-eqb, ltb-true, lt-ltb, ne_eqb}
 use Rattle.std.proofs.lemmas.List.{length-replicate}
 use Rattle.std.proofs.lemmas.Bool.{and_from}
 use mathlib.Core.Path.{fun_ext}
@@ -119,17 +119,6 @@ module _ (W : Shape) (L : Rooted W) (P : Verdicts) where
     abbrev y : Flow
     y = h.flow
 
-    -- what a refused call leaves
-    idle : (k : List Parcel) (n : ℕ) (l : ℕ → List ℕ) → k ≡ [] → n ≡ 0 → ((d : ℕ) → l d ≡ []) →
-        Follows W P (record { tree = x; sends = r.sends ++ k; fires = r.fires + n; taken = λ d. r.taken d ++ l d }) h
-    idle k n l a b c =
-        record {
-          match = F.match;
-          sends = ap (λ (k : List Parcel). r.sends ++ k) a ∙ append-nil r.sends ∙ F.sends;
-          moves = let f = F.moves in omega arith;
-          takes = λ d. ap (λ (l : List ℕ). r.taken d ++ l) (c d) ∙ append-nil (r.taken d) ∙ F.takes d;
-        }
-
     -- a send
     queued_match : (c : ℕ) (p : List ℕ) → c < W.cards → Matches W P (on_card x c (with_queue ((card_at x c).queue ++ p))) (queued y c p)
     unfolding queued number keeps stands pour change filled reads holds
@@ -209,12 +198,8 @@ module _ (W : Shape) (L : Rooted W) (P : Verdicts) where
     took_taken c d w =
         elim (ℕ_discrete d c) [
           | yes e ↦ rw (e, eq-eqb c c refl, F.takes c) (sym (put_same ℕ_discrete y.taken c (y.taken c ++ (w ∷ []))))
-          | no n ↦ ways (eqb d c) refl n ∙ F.takes d ∙ sym (put_other ℕ_discrete y.taken c (y.taken c ++ (w ∷ [])) d n)
+          | no n ↦ rw (ne_eqb d c n) (append-nil (r.taken d) ∙ F.takes d ∙ sym (put_other ℕ_discrete y.taken c (y.taken c ++ (w ∷ [])) d n))
         ]
-      where
-        ways : (b : Bool) → eqb d c ≡ b → d ≢ c → r.taken d ++ cond b (w ∷ []) [] ≡ r.taken d
-        ways true e n = absurd (n (eqb-true d c e))
-        ways false e n = append-nil (r.taken d)
 
     none_taken : (c d : ℕ) → r.taken d ++ cond (eqb d c) [] [] ≡ r.taken d
     none_taken c d = ways (eqb d c)

@@ -1,5 +1,6 @@
 -- A sum over a card's subtree is a sum over all cards that it stands above.
-use Rattle.std.proofs.Common.{◌≡◌, ℕ, zero, suc, ◌+◌, ◌<◌, ◌≤◌, Bool, true, false, cond, eqb, ◌≢◌, Some, None, Option, sym, refl, ap, ◌∙◌, arith, eq-eqb, ne_eqb}
+use Rattle.std.proofs.Common.{◌≡◌, ℕ, zero, suc, ◌+◌, ◌<◌, ◌≤◌, Bool, false, cond, eqb, ◌≢◌, Some, None, Option, sym, refl, ap, ◌∙◌, arith, eq-eqb, ne_eqb}
+use Rattle.std.proofs.lemmas.Bool.{false_from_ne_true}
 use Rattle.std.proofs.lemmas.Option.{same_Some}
 use native.Mathlib.Decide.{ℕ_discrete}
 use Rattle.packet.specs.declared.sides.Side.{Side}
@@ -50,11 +51,7 @@ over_n f (Some d) = f d
 
 module _ (W : Shape) (L : Rooted W) where
   covers_no : (t d : ℕ) → d < t → covers W t d ≡ false
-  covers_no t d h = ways (covers W t d) refl
-    where
-      ways : (b : Bool) → covers W t d ≡ b → covers W t d ≡ false
-      ways true e = let l = covers_le W L.lawful t d e in absurd (omega arith)
-      ways false e = e
+  covers_no t d h = false_from_ne_true _ (λ e. let l = covers_le W L.lawful t d e in omega arith)
 
   -- by the card above
   covers-above : (t d a : ℕ) → t ≢ d → above W d ≡ Some a → covers W t d ≡ covers W t a
@@ -97,10 +94,7 @@ module _ (W : Shape) (L : Rooted W) where
     side_root : (d : ℕ) (b : Side) (o : Option ℕ) → W.daughter b c ≡ o → above W d ≡ None → over_n (hit d) o ≡ 0
     unfolding over_n
     side_root d b None q p = refl
-    side_root d b (Some e) q p = rw (covers_top e d (λ z. clash (sym (L.up b c e q) ∙ ap (above W) z ∙ p)) p)
-      where
-        clash : Some c ≡ None → ⊥
-        clash e = grind arith
+    side_root d b (Some e) q p = rw (covers_top e d (λ z. let y : Some c ≡ None = sym (L.up b c e q) ∙ ap (above W) z ∙ p in grind arith) p)
 
     abbrev Split : ℕ → Type 0
     Split d = hit d c ≡ cond (eqb c d) v 0 + over_n (hit d) (W.daughter Left c) + over_n (hit d) (W.daughter Right c)
