@@ -1,5 +1,5 @@
 -- The words of a card are the arrivals of the packets that reach it.
-use Rattle.std.proofs.Common.{◌≡◌, ℕ, zero, suc, ◌+◌, ◌*◌, ◌<◌, ◌≤◌, Bool, true, false, cond, ◌&&◌, ltb, ◌≢◌, ◌⊎◌, List, [], ◌∷◌, ◌++◌, Some, None, Option, sym, refl, ap, ◌∙◌, inl, inr, append_assoc, append-nil, arith}
+use Rattle.std.proofs.Common.{◌≡◌, ℕ, zero, suc, ◌+◌, ◌*◌, ◌<◌, ◌≤◌, Bool, true, false, cond, ◌≢◌, ◌⊎◌, List, [], ◌∷◌, ◌++◌, Some, None, Option, sym, refl, ap, ◌∙◌, inl, inr, append_assoc, append-nil, arith}
 use mathlib.Core.Logic.{if_neg, if_pos}
 use native.Mathlib.Decide.{ℕ_discrete}
 use Rattle.refusal.specs.declared.drive.FireFault.TheVariants.{InboxFull}
@@ -16,11 +16,11 @@ use Rattle.network.specs.Sums.{sum_over}
 use Rattle.network.proofs.Basics.{along_push, put-eq, put_other, rest_push, sum_none, sum-part, next_not}
 use Rattle.network.proofs.Channels.{Rooted, node_discrete}
 use Rattle.network.proofs.Flow.{Flow, fired, holder, load, pass, refusal, refusal_by}
-use Rattle.network.proofs.History.{HistoryDelivery, Event, History, arrival, arrives, happens, hops, is_none, is_packet, last_tail, moving, one, past, queued, queueing, resting, sendable, step_fire, step_send, taking, took_by, whole_as, words}
+use Rattle.network.proofs.History.{HistoryDelivery, Event, History, arrival, arrives, happens, hops, is_packet, last_tail, one, past, queued, step_fire, step_send, taking, took_by, whole_as, words}
 use Rattle.network.proofs.UnderWay.{along, delivers, mark, next, plain, put, rest, waiting, weight}
 use Rattle.network.proofs.Preserve.{holder_tail, passed-at, passed_out, source_at, source_out}
 use Rattle.network.proofs.Progress.{down_held, front}
-use Rattle.network.proofs.HistoryLaws.{Good, Granted, empty-load, fire_is, fired-load, queued-load, run_good, sendable_is, took_load}
+use Rattle.network.proofs.HistoryLaws.{Good, Granted, empty-load, fired-load, queued-load, run_good, sendable_is, took_load, kept, granted}
 use Rattle.network.proofs.TripWeights.{sum_over-append}
 
 abbrev pub Brings : ℕ → List ℕ → Type 0
@@ -247,25 +247,13 @@ module _ (W : Shape) (L : Rooted W) (P : Verdicts) where
         count = λ l. let a = took_load W L P (arrives P d l) h.flow c (h.flow.inbox c) in let b = ap (along (whole_as l) []) (took_words h.flow c d) in let e = t.count l in omega arith;
       }
 
-  step_told : (d : ℕ) (k : Event) (h : History) → Good W h.flow → Told d h → Told d (happens W P k h)
-  unfolding happens step_send step_fire
-  step_told d (queueing c p) h G t = ways (sendable W h.flow c p) refl
-    where
-      ways : (b : Bool) → sendable W h.flow c p ≡ b → Told d (step_send h c p b)
-      ways true e = let s = sendable_is W L P h.flow c p e in queue_told d h c p G s.known s.packet t
-      ways false e = t
-  step_told d (moving i) h G t = ways (ltb (number i) W.cards && is_none (refusal W P h.flow i)) refl
-    where
-      ways : (b : Bool) → ltb (number i) W.cards && is_none (refusal W P h.flow i) ≡ b → Told d (step_fire W P h i b)
-      ways true e = let s = fire_is W L P h.flow i e in fire_told d h i G s.0 s.1 t
-      ways false e = t
-  step_told d (taking c) h G t = take_told d c h t
-  step_told d resting h G t = t
-
   run_told : (d : ℕ) (ks : List Event) → Told d (past W P ks)
-  unfolding past rest along part_by sum_over
-  run_told d [] = record { part = refl; count = λ l. omega (arith, empty-load W L P (arrives P d l)) }
-  run_told d (k ∷ ks) = step_told d k (past W P ks) (run_good W L P ks) (run_told d ks)
+  unfolding step_send step_fire rest along part_by sum_over
+  run_told d =
+      kept W L P (Told d) (record { part = refl; count = λ l. omega (arith, empty-load W L P (arrives P d l)) })
+      (λ ks c p e t. let s = sendable_is W L P (past W P ks).flow c p e in queue_told d (past W P ks) c p (run_good W L P ks) s.known s.packet t)
+      (λ ks i n r t. fire_told d (past W P ks) i (run_good W L P ks) n (granted W L P (past W P ks).flow i r) t)
+      (λ ks c t. take_told d c (past W P ks) t)
 
   weight_pos : (k : ℕ) (s : Node) (q : List ℕ) → 0 < k → 1 ≤ weight one W k s q
   unfolding weight

@@ -1,5 +1,5 @@
 -- The hops and the deliveries of a history, in the terms of routes.
-use Rattle.std.proofs.Common.{◌≡◌, ℕ, ◌*◌, Bool, true, false, cond, ◌&&◌, eqb, ltb, List, [], ◌∷◌, ◌++◌, Some, None, refl, ap, ◌∙◌, arith, eq-eqb, ne_eqb}
+use Rattle.std.proofs.Common.{◌≡◌, ℕ, ◌*◌, true, cond, eqb, List, [], ◌∷◌, ◌++◌, Some, None, refl, ap, ◌∙◌, arith, eq-eqb, ne_eqb}
 use Rattle.std.specs.List.{AllByRecursion}
 use Rattle.network.specs.Sums.{sum_over}
 use mathlib.Core.Path.{fun_ext}
@@ -10,15 +10,14 @@ use Rattle.wiring.specs.Shapes.{Shape}
 use Rattle.licence.specs.declared.verdict.Verdict.{Verdict}
 use Rattle.licence.specs.declared.verdict.Verdict.TheVariants.{Class, Refuse}
 use Rattle.station.specs.Plans.{Verdicts, accepted}
-use Rattle.network.specs.Nodes.{down, number, up}
+use Rattle.network.specs.Nodes.{down, up}
 use Rattle.network.proofs.Arrivals.{arrivals}
 use Rattle.network.proofs.Channels.{Rooted, node_discrete}
 use Rattle.network.proofs.Delivery.{delivery_law, later_none}
-use Rattle.network.proofs.Flow.{refusal}
-use Rattle.network.proofs.History.{Event, HistoryExact, History, HistoryPathHops, arrival, arrives, as_arrived, brought, brought_by, happens, hops, is_none, moving, one, past, queueing, resting, sendable, step_fire, step_send, taking, whole_as, with_class}
+use Rattle.network.proofs.History.{Event, HistoryExact, HistoryPathHops, arrival, arrives, as_arrived, brought, brought_by, happens, hops, one, past, step_fire, step_send, whole_as, with_class}
 use Rattle.network.proofs.UnderWay.{delivers, mark, plain}
 use Rattle.network.proofs.TripHops.{path_hops_lem, stop_flood, stop_stops, stop_head}
-use Rattle.network.proofs.HistoryLaws.{hops_law, sendable_is}
+use Rattle.network.proofs.HistoryLaws.{hops_law, sendable_is, kept}
 use Rattle.network.proofs.Trip.{Trip, is_way, reached, trip, trip_hops, trip_hops_by, way}
 use Rattle.network.proofs.Sendings.{IsSent, sent_way}
 use Rattle.network.proofs.Outputs.{all_append, all_map, sum_over_same}
@@ -28,25 +27,13 @@ abbrev pub SentFrom : (W : Shape) → Rooted W → ℕ × List ℕ → Type 0
 SentFrom W L m = IsSent W L m.0 m.1
 
 module _ (W : Shape) (L : Rooted W) (P : Verdicts) where
-  step_sent : (k : Event) (h : History) → AllByRecursion (SentFrom W L) h.sent → AllByRecursion (SentFrom W L) (happens W P k h).sent
-  unfolding happens step_send step_fire
-  step_sent (queueing c p) h a = ways (sendable W h.flow c p) refl
-    where
-      ways : (b : Bool) → sendable W h.flow c p ≡ b → AllByRecursion (SentFrom W L) (step_send h c p b).sent
-      ways true e = all_append (SentFrom W L) h.sent ((c, p) ∷ []) a (sendable_is W L P h.flow c p e, tt)
-      ways false e = a
-  step_sent (moving i) h a = ways (ltb (number i) W.cards && is_none (refusal W P h.flow i))
-    where
-      ways : (b : Bool) → AllByRecursion (SentFrom W L) (step_fire W P h i b).sent
-      ways true = a
-      ways false = a
-  step_sent (taking c) h a = a
-  step_sent resting h a = a
-
   pub run_sent : (ks : List Event) → AllByRecursion (SentFrom W L) (past W P ks).sent
-  unfolding past
-  run_sent [] = tt
-  run_sent (k ∷ ks) = step_sent k (past W P ks) (run_sent ks)
+  unfolding happens step_send step_fire
+  run_sent =
+      kept W L P (λ h. AllByRecursion (SentFrom W L) h.sent) tt
+      (λ ks c p e a. all_append (SentFrom W L) (past W P ks).sent ((c, p) ∷ []) a (sendable_is W L P (past W P ks).flow c p e, tt))
+      (λ ks i n r a. a)
+      (λ ks c a. a)
 
   one-hops : (m : ℕ × List ℕ) → SentFrom W L m → hops one W m ≡ trip_hops W m
   unfolding trip_hops trip_hops_by way is_way

@@ -234,59 +234,54 @@ module _ (W : Shape) (L : Rooted W) (P : Verdicts) where
   unfolding sendable
   sendable_is x c p e = sent_is W L (length (x.chan (Queued c))) c p e
 
-  pub fire_is : (x : Flow) (i : Channel) → ltb (number i) W.cards && is_none (refusal W P x i) ≡ true → (number i < W.cards) × Granted x i
-  fire_is x i e = (ltb-true (number i) W.cards (and_parts _ (is_none (refusal W P x i)) e).0, granted x i (none_is (refusal W P x i) (and_parts (ltb (number i) W.cards) _ e).1))
-
-  pub step_good : (k : Event) (h : History) → Good W h.flow → Good W (happens W P k h).flow
-  unfolding happens step_send step_fire
-  step_good (queueing c p) h G = ways (sendable W h.flow c p) refl
+  -- what the first history has, and each granted send, each granted fire and each take keeps, every history has
+  pub kept : (Q : History → Type 0) → Q none_yet →
+      ((ks : List Event) (c : ℕ) (p : List ℕ) → sendable W (past W P ks).flow c p ≡ true → Q (past W P ks) → Q (step_send (past W P ks) c p true)) →
+      ((ks : List Event) (i : Channel) → number i < W.cards → refusal W P (past W P ks).flow i ≡ None → Q (past W P ks) → Q (step_fire W P (past W P ks) i true)) →
+      ((ks : List Event) (c : ℕ) → Q (past W P ks) → Q (happens W P (taking c) (past W P ks))) → (ks : List Event) → Q (past W P ks)
+  unfolding past happens step_send step_fire
+  kept Q start send fire take [] = start
+  kept Q start send fire take (k ∷ ks) = step k (kept Q start send fire take ks)
     where
-      ways : (b : Bool) → sendable W h.flow c p ≡ b → Good W (step_send h c p b).flow
-      ways true e = let s = sendable_is h.flow c p e in queued_good h.flow G c p s.known s.packet
-      ways false e = G
-  step_good (moving i) h G = ways (ltb (number i) W.cards && is_none (refusal W P h.flow i)) refl
-    where
-      ways : (b : Bool) → ltb (number i) W.cards && is_none (refusal W P h.flow i) ≡ b → Good W (step_fire W P h i b).flow
-      ways true e = let s = fire_is h.flow i e in fired_good h.flow i G s.0 s.1
-      ways false e = G
-  step_good (taking c) h G = took_good h.flow c (h.flow.inbox c) G
-  step_good resting h G = G
+      step : (k : Event) → Q (past W P ks) → Q (happens W P k (past W P ks))
+      step (queueing c p) q = ways (sendable W (past W P ks).flow c p) refl
+        where
+          ways : (b : Bool) → sendable W (past W P ks).flow c p ≡ b → Q (step_send (past W P ks) c p b)
+          ways true e = send ks c p e q
+          ways false e = q
+      step (moving i) q = ways (ltb (number i) W.cards && is_none (refusal W P (past W P ks).flow i)) refl
+        where
+          ways : (b : Bool) → ltb (number i) W.cards && is_none (refusal W P (past W P ks).flow i) ≡ b → Q (step_fire W P (past W P ks) i b)
+          ways true e =
+              let (n, r) = and_parts (ltb (number i) W.cards) _ e in
+              fire ks i (ltb-true (number i) W.cards n) (none_is (refusal W P (past W P ks).flow i) r) q
+          ways false e = q
+      step (taking c) q = take ks c q
+      step resting q = q
 
   pub run_good : (ks : List Event) → Good W (past W P ks).flow
-  unfolding past
-  run_good [] = empty_good
-  run_good (k ∷ ks) = step_good k (past W P ks) (run_good ks)
-
-  -- one step of the account of hops
-  hops_step : (k : Event) (h : History) → Good W h.flow → load one W h.flow + h.fires ≡ sum_over h.sent (hops one W) →
-      load one W (happens W P k h).flow + (happens W P k h).fires ≡ sum_over (happens W P k h).sent (hops one W)
-  unfolding happens step_send step_fire sum_over
-  hops_step (queueing c p) h G a = ways (sendable W h.flow c p) refl
-    where
-      ways : (b : Bool) → sendable W h.flow c p ≡ b →
-          load one W (step_send h c p b).flow + (step_send h c p b).fires ≡ sum_over (step_send h c p b).sent (hops one W)
-      ways true e = let s = sendable_is h.flow c p e in let t = queued-load h.flow G c p s.known s.packet one in let u = sum_over-append (hops one W) h.sent ((c, p) ∷ []) in omega arith
-      ways false e = a
-  hops_step (moving i) h G a = ways (ltb (number i) W.cards && is_none (refusal W P h.flow i)) refl
-    where
-      ways : (b : Bool) → ltb (number i) W.cards && is_none (refusal W P h.flow i) ≡ b →
-          load one W (step_fire W P h i b).flow + (step_fire W P h i b).fires ≡ sum_over (step_fire W P h i b).sent (hops one W)
-      ways true e = let s = fire_is h.flow i e in let t = fired-load one h.flow i G s.0 s.1 in omega arith
-      ways false e = a
-  hops_step (taking c) h G a = let t = took_load one h.flow c (h.flow.inbox c) in omega arith
-  hops_step resting h G a = a
+  unfolding happens step_send step_fire
+  run_good =
+      kept (λ h. Good W h.flow) empty_good
+      (λ ks c p e G. let s = sendable_is (past W P ks).flow c p e in queued_good (past W P ks).flow G c p s.known s.packet)
+      (λ ks i n r G. fired_good (past W P ks).flow i G n (granted (past W P ks).flow i r))
+      (λ ks c G. took_good (past W P ks).flow c ((past W P ks).flow.inbox c) G)
 
   pub empty-load : (f : Node → List ℕ → ℕ) → load f W none_yet.flow ≡ 0
   unfolding load waiting along
   empty-load f = sum_none W.cards _ (λ o. refl)
 
 pub hops_law : HistoryHops
-unfolding past sum_over
-hops_law W L P ks = go ks
-  where
-    go : (ks : List Event) → load one W (past W P ks).flow + (past W P ks).fires ≡ sum_over (past W P ks).sent (hops one W)
-    go [] = omega (arith, empty-load W L P one)
-    go (k ∷ ks) = hops_step W L P k (past W P ks) (run_good W L P ks) (go ks)
+unfolding happens step_send step_fire sum_over
+hops_law W L P =
+    kept W L P (λ h. load one W h.flow + h.fires ≡ sum_over h.sent (hops one W)) (omega (arith, empty-load W L P one))
+    (λ ks c p e a.
+    let s = sendable_is W L P (past W P ks).flow c p e in
+    let t = queued-load W L P (past W P ks).flow (run_good W L P ks) c p s.known s.packet one in
+    let u = sum_over-append (hops one W) (past W P ks).sent ((c, p) ∷ []) in
+    omega arith)
+    (λ ks i n r a. let t = fired-load W L P one (past W P ks).flow i (run_good W L P ks) n (granted W L P (past W P ks).flow i r) in omega arith)
+    (λ ks c a. let t = took_load W L P one (past W P ks).flow c ((past W P ks).flow.inbox c) in omega arith)
 
 waits : (f : Node → List ℕ → ℕ) (W : Shape) (k : ℕ) (s : Node) (q l : List ℕ) → 0 < waiting f W k s q l → is_empty l ≡ false
 unfolding waiting along is_empty

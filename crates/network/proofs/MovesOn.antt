@@ -1,5 +1,6 @@
 -- A granted fire moves one word of a sent packet one station on along the packet's path.
-use Rattle.std.proofs.Common.{◌≡◌, ℕ, ◌<◌, Bool, true, false, ◌&&◌, ltb, List, [], ◌∷◌, ◌++◌, length, get_or, Some, None, Ok, Err, Option, sym, refl, ap, ◌∙◌, subst, ap₂, inl, inr, arith, length-append, ltb-true}
+use Rattle.std.proofs.Common.{◌≡◌, ℕ, ◌<◌, Bool, true, false, ltb, List, [], ◌∷◌, ◌++◌, length, get_or, Some, None, Ok, Err, Option, sym, refl, ap, ◌∙◌, subst, ap₂, inl, inr, arith, length-append, ltb-true}
+use Rattle.std.proofs.lemmas.Bool.{false_from_ne_true}
 use Rattle.refusal.specs.declared.drive.FireFault.{FireFault}
 use Rattle.refusal.specs.declared.drive.FireFault.TheVariants.{NoCard, NoInput}
 use Rattle.packet.specs.Routes.{advance}
@@ -20,8 +21,8 @@ use Rattle.network.proofs.Basics.{put_other, put_same}
 use Rattle.network.proofs.Channels.{Rooted, channel_discrete, rooted}
 use Rattle.network.proofs.Conserve.{SendsInto, moved_push}
 use Rattle.network.proofs.Flow.{Flow, admits, all_clear, fired, fits, pass, refusal, refusal_at, refusal_by}
-use Rattle.network.proofs.History.{Event, History, happens, is_none, is_packet, moving, past, queued, queueing, resting, sendable, step_fire, step_send, taking, took_by}
-use Rattle.network.proofs.HistoryLaws.{Good, Granted, fire_is, granted, outs_of_distinct, run_good, sendable_is, unrefused}
+use Rattle.network.proofs.History.{Event, happens, is_packet, past, queued, step_fire, step_send, took_by}
+use Rattle.network.proofs.HistoryLaws.{Good, Granted, granted, outs_of_distinct, run_good, sendable_is, unrefused, kept}
 use Rattle.network.proofs.Invariant.{all_elem, elem, elem_other, feeder, push_all_in, push_all_out, sending}
 use Rattle.network.proofs.Inputs.{input_known}
 use Rattle.network.proofs.Match.{Beside, clear_all}
@@ -156,25 +157,13 @@ module _ (W : Shape) (L : Rooted W) (P : Verdicts) where
   took_traced S x c [] T = T
   took_traced S x c (w ∷ ws) T = T
 
-  step_traced : (k : Event) (h : History) → Good W h.flow → All-traced h.sent h.flow → All-traced (happens W P k h).sent (happens W P k h).flow
-  unfolding happens step_send step_fire
-  step_traced (queueing c p) h G T = ways (sendable W h.flow c p) refl
-    where
-      ways : (b : Bool) → sendable W h.flow c p ≡ b → All-traced (step_send h c p b).sent (step_send h c p b).flow
-      ways true e = queued_traced h.sent h.flow G c p (sendable_is W L P h.flow c p e).packet T
-      ways false e = T
-  step_traced (moving i) h G T = ways (ltb (number i) W.cards && is_none (refusal W P h.flow i)) refl
-    where
-      ways : (b : Bool) → ltb (number i) W.cards && is_none (refusal W P h.flow i) ≡ b → All-traced (step_fire W P h i b).sent (step_fire W P h i b).flow
-      ways true e = let s = fire_is W L P h.flow i e in fired_traced h.sent h.flow G i s.0 s.1 T
-      ways false e = T
-  step_traced (taking c) h G T = took_traced h.sent h.flow c (h.flow.inbox c) T
-  step_traced resting h G T = T
-
   pub run_traced : (ks : List Event) → All-traced (past W P ks).sent (past W P ks).flow
-  unfolding past
-  run_traced [] o = tt
-  run_traced (k ∷ ks) o = step_traced k (past W P ks) (run_good W L P ks) (run_traced ks) o
+  unfolding happens step_send step_fire
+  run_traced =
+      kept W L P (λ h. All-traced h.sent h.flow) (λ o. tt)
+      (λ ks c p e T. queued_traced (past W P ks).sent (past W P ks).flow (run_good W L P ks) c p (sendable_is W L P (past W P ks).flow c p e).packet T)
+      (λ ks i n r T. fired_traced (past W P ks).sent (past W P ks).flow (run_good W L P ks) i n (granted W L P (past W P ks).flow i r) T)
+      (λ ks c T. took_traced (past W P ks).sent (past W P ks).flow c ((past W P ks).flow.inbox c) T)
 
   -- a granted fire is of a card that there is, at an input that its station has
   fire_there : (x : State) (c : ℕ) (t : Station) (i : Input) (n : ℕ) → (fire_step W P x c t i).answer ≡ Ok n → (c < W.cards) × (o : Channel) × (input_of W (node_of c t) i ≡ Some o)
@@ -193,11 +182,7 @@ module _ (W : Shape) (L : Rooted W) (P : Verdicts) where
 
   -- not among the outputs
   unstepped : (j : Channel) (os : List Channel) → (elem j os ≡ true → ⊥) → elem j os ≡ false
-  unstepped j os n = ways (elem j os) refl
-    where
-      ways : (b : Bool) → elem j os ≡ b → elem j os ≡ false
-      ways true e = absurd (n e)
-      ways false e = e
+  unstepped j os n = false_from_ne_true _ n
 
   -- the fire beside the network's: the word at the front of the channel goes on
   one_on : (r : Run) → History-of W L P r → (c : ℕ) (t : Station) (i : Input) (n : ℕ) → (fire_step W P r.tree c t i).answer ≡ Ok n → OneOn W P r c t i

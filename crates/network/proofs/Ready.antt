@@ -1,5 +1,5 @@
 -- A channel with words in it is the input of some station.
-use Rattle.std.proofs.Common.{◌≡◌, ℕ, ◌<◌, Bool, true, false, ◌&&◌, ltb, ◌⊎◌, List, [], ◌∷◌, ◌++◌, Some, None, Err, sym, refl, ap, ◌∙◌, subst, inl, inr, arith}
+use Rattle.std.proofs.Common.{◌≡◌, ℕ, ◌<◌, Bool, true, false, ◌⊎◌, List, [], ◌∷◌, ◌++◌, Some, None, Err, sym, refl, ap, ◌∙◌, subst, inl, inr, arith}
 use Rattle.std.specs.List.{AllByRecursion}
 use Rattle.refusal.specs.declared.drive.FireFault.{FireFault}
 use Rattle.refusal.specs.declared.drive.FireFault.TheVariants.{InboxFull}
@@ -23,8 +23,8 @@ use Rattle.network.proofs.Basics.{put_other}
 use Rattle.network.proofs.Channels.{Rooted, channel_discrete}
 use Rattle.network.proofs.Conserve.{at}
 use Rattle.network.proofs.Flow.{Flow, fired, pass, refusal, refusal_by}
-use Rattle.network.proofs.History.{Event, History, happens, is_none, moving, past, queued, queueing, resting, sendable, step_fire, step_send, taking, took_by}
-use Rattle.network.proofs.HistoryLaws.{Good, Granted, fire_is, progress_law, run_good}
+use Rattle.network.proofs.History.{Event, happens, past, queued, step_fire, step_send, took_by}
+use Rattle.network.proofs.HistoryLaws.{Good, Granted, progress_law, run_good, kept, granted}
 use Rattle.network.proofs.Invariant.{all_elem, elem}
 use Rattle.network.proofs.Match.{Beside}
 use Rattle.network.proofs.Outputs.{outs_of_each}
@@ -83,29 +83,21 @@ module _ (W : Shape) (L : Rooted W) (P : Verdicts) where
   took_real x c [] R = R
   took_real x c (w ∷ ws) R = R
 
-  happen_real : (k : Event) (h : History) → Good W h.flow → All-real h.flow → All-real (happens W P k h).flow
-  unfolding happens step_send step_fire queued target input_of
-  happen_real (queueing c p) h G R = ways (sendable W h.flow c p)
-    where
-      ways : (b : Bool) → All-real (step_send h c p b).flow
-      ways true o w ws e =
-          elim (channel_discrete o (Queued c)) [
-            | yes q ↦ rw q (Queue, refl)
-            | no n ↦ R o w ws (sym (put_other channel_discrete h.flow.chan (Queued c) (h.flow.chan (Queued c) ++ p) o n) ∙ e)
-          ]
-      ways false o w ws e = R o w ws e
-  happen_real (moving i) h G R = ways (ltb (number i) W.cards && is_none (refusal W P h.flow i)) refl
-    where
-      ways : (b : Bool) → ltb (number i) W.cards && is_none (refusal W P h.flow i) ≡ b → All-real (step_fire W P h i b).flow
-      ways true e = let s = fire_is W L P h.flow i e in fire_real h.flow i G s.0 s.1 R
-      ways false e = R
-  happen_real (taking c) h G R = took_real h.flow c (h.flow.inbox c) R
-  happen_real resting h G R = R
+  queued_real : (x : Flow) (c : ℕ) (p : List ℕ) → All-real x → All-real (queued x c p)
+  unfolding queued target input_of
+  queued_real x c p R o w ws e =
+      elim (channel_discrete o (Queued c)) [
+        | yes q ↦ rw q (Queue, refl)
+        | no n ↦ R o w ws (sym (put_other channel_discrete x.chan (Queued c) (x.chan (Queued c) ++ p) o n) ∙ e)
+      ]
 
   run_real : (ks : List Event) → All-real (past W P ks).flow
-  unfolding past
-  run_real [] o w ws e = absurd (grind arith)
-  run_real (k ∷ ks) o w ws e = happen_real k (past W P ks) (run_good W L P ks) (run_real ks) o w ws e
+  unfolding happens step_send step_fire
+  run_real =
+      kept W L P (λ h. All-real h.flow) (λ o w ws e. absurd (grind arith))
+      (λ ks c p e R. queued_real (past W P ks).flow c p R)
+      (λ ks i n r R. fire_real (past W P ks).flow i (run_good W L P ks) n (granted W L P (past W P ks).flow i r) R)
+      (λ ks c R. took_real (past W P ks).flow c ((past W P ks).flow.inbox c) R)
 
   -- a channel that a station can take from is not empty
   not_empty : (y : Flow) (o : Channel) → (refusal W P y o ≡ None) ⊎ (refusal W P y o ≡ Some InboxFull) → (w : ℕ) × (ws : List ℕ) × (y.chan o ≡ w ∷ ws)

@@ -1,6 +1,6 @@
 -- No queue and no inbox ever has more words than it has room for.
-use Rattle.std.proofs.Common.{◌≡◌, ℕ, ◌+◌, ◌≤◌, Bool, true, false, cond, not, ◌&&◌, ltb, leb, List, [], ◌∷◌, ◌++◌, length, Some, None, Ok, Err, Result, sym, refl, ap, ◌∙◌, inl, inr, arith, length-append, leb-false}
-use Rattle.std.proofs.lemmas.Bool.{and_parts, false_from_ne_true}
+use Rattle.std.proofs.Common.{◌≡◌, ℕ, ◌+◌, ◌≤◌, Bool, true, false, cond, not, ◌&&◌, leb, List, [], ◌∷◌, ◌++◌, length, Some, None, Ok, Err, Result, sym, refl, ap, ◌∙◌, inl, inr, arith, length-append, leb-false}
+use Rattle.std.proofs.lemmas.Bool.{false_from_ne_true}
 use native.Mathlib.Decide.{ℕ_discrete}
 use Rattle.refusal.specs.declared.drive.FireFault.TheVariants.{InboxFull}
 use Rattle.refusal.specs.declared.send.PacketFault.{PacketFault}
@@ -9,15 +9,15 @@ use Rattle.station.specs.Plans.{Verdicts}
 use Rattle.station.specs.declared.channel.Channel.{Channel}
 use Rattle.station.specs.declared.channel.Channel.TheVariants.{Queued}
 use Rattle.network.specs.Cards.{inbox_room, queue_room}
-use Rattle.network.specs.Nodes.{Node, card_of, number, target}
+use Rattle.network.specs.Nodes.{Node, card_of, target}
 use Rattle.network.specs.Sends.{Way, send_way}
 use Rattle.network.proofs.Basics.{put-eq, put_other}
 use Rattle.network.proofs.Channels.{Rooted, channel_discrete}
 use Rattle.network.proofs.Delivery.{Brings, delivered}
 use Rattle.network.proofs.Feeders.{outs_of_fed}
 use Rattle.network.proofs.Flow.{Flow, admits, all_clear, fired, fits, is_empty, pass, refusal, refusal_at, refusal_by}
-use Rattle.network.proofs.History.{Event, History, happens, is_granted, is_none, moving, past, queued, queueing, resting, sendable, step_fire, step_send, taking, took_by}
-use Rattle.network.proofs.HistoryLaws.{Granted, fire_is, none_is, unrefused}
+use Rattle.network.proofs.History.{Event, happens, is_granted, past, queued, sendable, step_fire, step_send, took_by}
+use Rattle.network.proofs.HistoryLaws.{Granted, unrefused, kept, granted}
 use Rattle.network.proofs.Invariant.{all_elem, elem, feeder, push_all_out}
 use Rattle.network.proofs.Sendings.{sends_room}
 use Rattle.network.proofs.UnderWay.{delivers, leaves, outs_of, put}
@@ -132,22 +132,10 @@ module _ (W : Shape) (L : Rooted W) (P : Verdicts) where
     fired_room : Roomy (fired W P x i)
     fired_room = rw g.result (record { queues = λ c. rw (queue_is c) (queues_kept c); inboxes = inboxes_kept })
 
-  step_room : (k : Event) (h : History) → Roomy h.flow → Roomy (happens W P k h).flow
-  unfolding happens step_send step_fire
-  step_room (queueing c p) h R = ways (sendable W h.flow c p) refl
-    where
-      ways : (b : Bool) → sendable W h.flow c p ≡ b → Roomy (step_send h c p b).flow
-      ways true e = queued_room W L h.flow c p e R
-      ways false e = R
-  step_room (moving i) h R = ways (ltb (number i) W.cards && is_none (refusal W P h.flow i)) refl
-    where
-      ways : (b : Bool) → ltb (number i) W.cards && is_none (refusal W P h.flow i) ≡ b → Roomy (step_fire W P h i b).flow
-      ways true e = fired_room h.flow i (none_is (refusal W P h.flow i) (and_parts (ltb (number i) W.cards) _ e).1) (fire_is W L P h.flow i e).1 R
-      ways false e = R
-  step_room (taking c) h R = took_room h.flow c (h.flow.inbox c) refl R
-  step_room resting h R = R
-
   pub run_room : (ks : List Event) → Roomy (past W P ks).flow
-  unfolding past
-  run_room [] = record { queues = λ c. omega arith; inboxes = λ c. omega arith }
-  run_room (k ∷ ks) = step_room k (past W P ks) (run_room ks)
+  unfolding happens step_send step_fire
+  run_room =
+      kept W L P (λ h. Roomy h.flow) (record { queues = λ c. omega arith; inboxes = λ c. omega arith })
+      (λ ks c p e R. queued_room W L (past W P ks).flow c p e R)
+      (λ ks i n r R. fired_room (past W P ks).flow i r (granted W L P (past W P ks).flow i r) R)
+      (λ ks c R. took_room (past W P ks).flow c ((past W P ks).flow.inbox c) refl R)
