@@ -204,17 +204,18 @@ module _ (W : Shape) (L : Rooted W) (P : Verdicts) where
             omega arith;
       }
 
+  part_kept : (d : ℕ) (x y : Flow) → y.passed ≡ x.passed → (k : Option Channel) → part_by P x d k ≡ part_by P y d k
+  unfolding part_by
+  part_kept d x y p None = refl
+  part_kept d x y p (Some k) = rw p
+
   queue_told : (d : ℕ) (h : History) (c : ℕ) (p : List ℕ) → Good W h.flow → c < W.cards → is_packet p ≡ true → Told d h → Told d (step_send h c p true)
   unfolding step_send sum_over queued part_by
   queue_told d h c p G hc hp t =
       record {
-        part = t.part ∙ same (h.flow.source (down d));
+        part = t.part ∙ part_kept d h.flow (queued h.flow c p) refl (h.flow.source (down d));
         count = λ l. let a = queued-load W L P h.flow G c p hc hp (arrives P d l) in let b = t.count l in let u = sum_over-append (hops (arrives P d l) W) h.sent ((c, p) ∷ []) in omega arith;
       }
-    where
-      same : (k : Option Channel) → part_by P h.flow d k ≡ part_by P (queued h.flow c p) d k
-      same None = refl
-      same (Some k) = refl
 
   took_words : (x : Flow) (c d : ℕ) → words (took_by x c (x.inbox c)) d ≡ words x d
   unfolding took_by
@@ -231,13 +232,9 @@ module _ (W : Shape) (L : Rooted W) (P : Verdicts) where
           ]
 
   took_part : (x : Flow) (c d : ℕ) (l : List ℕ) → part_by P x d (x.source (down d)) ≡ part_by P (took_by x c l) d ((took_by x c l).source (down d))
-  unfolding took_by part_by
+  unfolding took_by
   took_part x c d [] = refl
-  took_part x c d (w ∷ ws) = ways (x.source (down d))
-    where
-      ways : (k : Option Channel) → part_by P x d k ≡ part_by P (took_by x c (w ∷ ws)) d k
-      ways None = refl
-      ways (Some k) = refl
+  took_part x c d (w ∷ ws) = part_kept d x (took_by x c (w ∷ ws)) refl (x.source (down d))
 
   take_told : (d c : ℕ) (h : History) → Told d h → Told d (happens W P (taking c) h)
   unfolding happens

@@ -74,6 +74,16 @@ packet_rest (h ∷ ws) e =
     let r = ends-rest h [] ws f in
     rw (next_not [] h t) (r.0, and_from _ _ i r.1)
 
+-- what a station sends goes by the words that have passed and by whom it is held for
+sending_kept : (W : Shape) (x y : Flow) (o : Channel) → y.passed ≡ x.passed → y.source ≡ x.source → (t : Option Node) → sending W y o t ≡ sending W x o t
+unfolding sending sending_from
+sending_kept W x y o p s None = refl
+sending_kept W x y o p s (Some n) = rw s (ways (x.source n))
+  where
+    ways : (k : Option Channel) → sending_from W y o n k ≡ sending_from W x o n k
+    ways None = refl
+    ways (Some k) = rw p
+
 module _ (W : Shape) (L : Rooted W) (P : Verdicts) where
   -- send
   module _ (x : Flow) (G : Good W x) (c : ℕ) (p : List ℕ) (hc : c < W.cards) (hp : is_packet p ≡ true) where
@@ -91,15 +101,6 @@ module _ (W : Shape) (L : Rooted W) (P : Verdicts) where
     whole : rest (x.passed (Queued c)) (x.chan (Queued c)) ≡ []
     unfolding feeder sending
     whole = G.inv.links (Queued c)
-
-    same_sending : (o : Channel) (t : Option Node) → sending W y o t ≡ sending W x o t
-    unfolding queued sending sending_from
-    same_sending o None = refl
-    same_sending o (Some s) = ways (x.source s)
-      where
-        ways : (k : Option Channel) → sending_from W y o s k ≡ sending_from W x o s k
-        ways None = refl
-        ways (Some k) = refl
 
     pub queued-load : (f : Node → List ℕ → ℕ) → load f W y ≡ load f W x + hops f W (c, p)
     unfolding load hops waiting queued number target
@@ -123,7 +124,7 @@ module _ (W : Shape) (L : Rooted W) (P : Verdicts) where
         links o =
             elim (channel_discrete o (Queued c)) [
               | yes e ↦ rw (e, at, rest-append, whole) (packet_rest p hp).0
-              | no n ↦ rw (out o n) (G.inv.links o ∙ sym (same_sending o (feeder W o)))
+              | no n ↦ rw (out o n) (G.inv.links o ∙ sym (sending_kept W x y o refl refl (feeder W o)))
             ]
 
         shaped : (o : Channel) → shape (y.passed o) (y.chan o) ≡ true
@@ -141,22 +142,12 @@ module _ (W : Shape) (L : Rooted W) (P : Verdicts) where
             ]
 
   -- take
-  took_sending : (x : Flow) (c : ℕ) (l : List ℕ) (o : Channel) (t : Option Node) → sending W (took_by x c l) o t ≡ sending W x o t
-  unfolding took_by sending sending_from
-  took_sending x c [] o t = refl
-  took_sending x c (w ∷ ws) o None = refl
-  took_sending x c (w ∷ ws) o (Some s) = ways (x.source s)
-    where
-      ways : (k : Option Channel) → sending_from W (took_by x c (w ∷ ws)) o s k ≡ sending_from W x o s k
-      ways None = refl
-      ways (Some k) = refl
-
   took_good : (x : Flow) (c : ℕ) (l : List ℕ) → Good W x → Good W (took_by x c l)
   unfolding took_by
   took_good x c [] G = G
   took_good x c (w ∷ ws) G =
       record {
-        inv = record { quiet = G.inv.quiet; home = G.inv.home; begun = G.inv.begun; links = λ o. G.inv.links o ∙ sym (took_sending x c (w ∷ ws) o (feeder W o)) };
+        inv = record { quiet = G.inv.quiet; home = G.inv.home; begun = G.inv.begun; links = λ o. G.inv.links o ∙ sym (sending_kept W x (took_by x c (w ∷ ws)) o refl refl (feeder W o)) };
         shaped = G.shaped;
         known = G.known;
       }

@@ -180,10 +180,6 @@ module _ (W : Shape) (L : Rooted W) (P : Verdicts) where
       ways true e = let (o, f) = at e (input_of W (node_of c t) i) refl in (ltb-true c W.cards e, o, f)
       ways false e = absurd (refused NoCard (rw e))
 
-  -- not among the outputs
-  unstepped : (j : Channel) (os : List Channel) → (elem j os ≡ true → ⊥) → elem j os ≡ false
-  unstepped j os n = false_from_ne_true _ n
-
   -- the fire beside the network's: the word at the front of the channel goes on
   one_on : (r : Run) → History-of W L P r → (c : ℕ) (t : Station) (i : Input) (n : ℕ) → (fire_step W P r.tree c t i).answer ≡ Ok n → OneOn W P r c t i
   one_on r H c t i n a =
@@ -227,7 +223,7 @@ module _ (W : Shape) (L : Rooted W) (P : Verdicts) where
                 ∙ M.chan j
                 ∙ ap (λ (z : Flow). z.chan j) g.result
                 ∙ chan_out W L P y G.inv o g.w g.ws hn g.front g.takes j
-                (unstepped j (outs_of W (target W o) (k ++ (g.w ∷ []))) (λ el.
+                (false_from_ne_true _ (λ el.
                 ns
                 (subst (λ (s : Node). Step W s p.comes j) to
                 (all_elem (Step W (target W o) p.comes) j _ (outs_step W (target W o) p.comes) (sym (ap (elem j) (outs_comes W (target W o) k g.w p.others p.comes p.later p.whole)) ∙ el)))))
