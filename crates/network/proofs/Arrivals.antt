@@ -1,5 +1,6 @@
 -- A packet arrives once at each card that it reaches and that accepts it.
 use Rattle.std.proofs.Common.{◌≡◌, ℕ, ◌*◌, ◌<◌, Bool, true, false, cond, List, [], ◌∷◌, ◌++◌, Some, refl, ap, ◌∙◌, ap₂, inl, inr, append_assoc, append-nil, arith}
+use Rattle.network.proofs.Cutting.{last_tail_lem}
 use Rattle.network.proofs.Basics.{next_not}
 use mathlib.Core.Logic.{if_neg, if_pos, ite}
 use Rattle.packet.specs.Heads.{floods}
@@ -11,7 +12,7 @@ use Rattle.network.specs.Nodes.{Node, card_of, down, up}
 use Rattle.network.specs.Sums.{sum_over}
 use Rattle.network.proofs.Channels.{Rooted, node_discrete}
 use Rattle.network.proofs.Delivery.{Brings, arrival-append, delivered, none_before, whole_as_nil}
-use Rattle.network.proofs.History.{arrival, arrives, ends, hops, is_packet, last_tail, whole_as}
+use Rattle.network.proofs.History.{arrival, arrives, ends, hops, is_packet, whole_as}
 use Rattle.network.proofs.UnderWay.{along, delivers, waiting, weight}
 use Rattle.network.proofs.TripHops.{stop_flood, stop_stops, stop_head}
 use Rattle.network.proofs.HistoryLaws.{ends_parts, packet_parts}
@@ -50,12 +51,6 @@ later-passing P c h s r [] = refl
 later-passing P c h s [] (w ∷ q) = rw s (later-passing P c h s (w ∷ []) q)
 later-passing P c h s (k ∷ r) (w ∷ q) = rw s (later-passing P c h s (k ∷ (r ++ (w ∷ []))) q)
 
-last_tail_push : (a : List ℕ) (v : ℕ) → last_tail (a ++ (v ∷ [])) ≡ is_tail_word v
-unfolding last_tail
-last_tail_push [] v = refl
-last_tail_push (x ∷ []) v = refl
-last_tail_push (x ∷ y ∷ a) v = last_tail_push (y ∷ a) v
-
 -- an arrival is whole only with its tail
 not_whole : (P : Verdicts) (s : Node) (q : List ℕ) (w : ℕ) (l : List ℕ) → is_tail_word w ≡ false → whole_as l (arrival P s [] (q ++ (w ∷ []))) ≡ 0
 unfolding whole_as
@@ -63,7 +58,7 @@ not_whole P s q w l t = rw (arrival-append P s [] q w) (ways (delivers P s q w) 
   where
     ways : (m : List ℕ) → delivers P s q w ≡ m → Brings w m → whole_as l (arrival P s [] q ++ m) ≡ 0
     ways m e (inl n) = rw (n, append-nil, none_before P s q w (e ∙ n)) (whole_as_nil l)
-    ways m e (inr (v, n, k)) = rw (n, last_tail_push, k, t)
+    ways m e (inr (v, n, k)) = rw (n, last_tail_lem, k, t)
 
 along_last : (g : List ℕ → ℕ) (h : ℕ) → ((q : List ℕ) (w : ℕ) → is_tail_word w ≡ false → g (h ∷ (q ++ (w ∷ []))) ≡ 0) → (q ws : List ℕ) → ends ws ≡ true →
     along g (h ∷ q) ws ≡ g (h ∷ (q ++ ws))

@@ -61,7 +61,7 @@ whole_all (w ∷ ws) q n = ways (is_tail_word w) refl (λ q n. whole_all ws q n)
     ways true t rec = and_from _ _ (ends-one q w n t) (rec [] refl)
     ways false t rec = rec (q ++ (w ∷ [])) (no_more q w n t)
 
-last_tail_lem : (q : List ℕ) (w : ℕ) → last_tail (q ++ (w ∷ [])) ≡ is_tail_word w
+pub last_tail_lem : (q : List ℕ) (w : ℕ) → last_tail (q ++ (w ∷ [])) ≡ is_tail_word w
 unfolding last_tail
 last_tail_lem [] w = refl
 last_tail_lem (v ∷ []) w = refl

@@ -1,5 +1,6 @@
 -- A granted fire moves one word of a sent packet one station on along the packet's path.
-use Rattle.std.proofs.Common.{◌≡◌, ℕ, ◌<◌, Bool, true, false, ltb, List, [], ◌∷◌, ◌++◌, length, get_or, Some, None, Ok, Err, Option, sym, refl, ap, ◌∙◌, subst, ap₂, inl, inr, arith, length-append, ltb-true}
+use Rattle.std.proofs.Common.{◌≡◌, ℕ, ◌<◌, Bool, true, false, ltb, List, [], ◌∷◌, ◌++◌, length, get_or, Some, None, Ok, Err, Option, sym, refl, ap, ◌∙◌, subst, ap₂, inl, inr, arith, length-append, ltb-true, append_assoc}
+use Rattle.std.proofs.lemmas.List.{get_or_at}
 use Rattle.std.proofs.lemmas.Bool.{false_from_ne_true}
 use Rattle.refusal.specs.declared.drive.FireFault.{FireFault}
 use Rattle.refusal.specs.declared.drive.FireFault.TheVariants.{NoCard, NoInput}
@@ -35,8 +36,7 @@ use Rattle.network.proofs.Writes.{waiting_is}
 
 -- a word, by its place among the words of its packet
 at_place : (q : List ℕ) (w : ℕ) (r : List ℕ) → get_or ((q ++ (w ∷ [])) ++ r) (length q) 0 ≡ w
-at_place [] w r = refl
-at_place (h ∷ q) w r = at_place q w r
+at_place q w r = rw (append_assoc q (w ∷ []) r) (get_or_at q w r 0 (length q) refl)
 
 moved_length : (q : List ℕ) → length (moved q) ≡ length q
 unfolding moved

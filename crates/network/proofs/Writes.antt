@@ -70,17 +70,7 @@ down_write x (Some d) w = refl
 
 pub written_is : (x : State) (c : ℕ) (p : Plan ℕ) → written c p x ≡ write_all x (links_of c p) p.word
 unfolding links_of
-written_is x c p =
-    let w : ℕ = p.word in
-    let us : List Channel = cond p.up (UpLink c ∷ []) [] in
-    let ts : List Channel = cond p.turn (TurnLink c ∷ []) [] in
-    let ls : List Channel = down_link_to p.left in
-    let rs : List Channel = down_link_to p.right in
-    let a : to_up_link c p.up w x ≡ write_all x us w = up_write x c p.up w in
-    let b : to_turn_link c p.turn w (to_up_link c p.up w x) ≡ write_all (write_all x us w) ts w = turn_write _ c p.turn w ∙ ap (λ (y : State). write_all y ts w) a in
-    let d : to_down_link p.left w (to_turn_link c p.turn w (to_up_link c p.up w x)) ≡ write_all (write_all (write_all x us w) ts w) ls w = down_write _ p.left w ∙ ap (λ (y : State). write_all y ls w) b in
-    down_write _ p.right w ∙ ap (λ (y : State). write_all y rs w) d
-    ∙ sym (write_append us (ts ++ (ls ++ rs)) x w ∙ write_append ts (ls ++ rs) (write_all x us w) w ∙ write_append ls rs (write_all (write_all x us w) ts w) w)
+written_is x c p = simp (up_write, turn_write, down_write, write_append)
 
 -- the station moves
 pub passed_is : (x : State) (s : Node) (i : Input) (w : ℕ) (e : Here) → passed (card_of s) (station_of s) i w e x ≡ stand x s (after (hold_of x s) i w e)
@@ -119,26 +109,13 @@ unfolding all_clear reads holds number down_link_to
 down_taken_lem x None = refl
 down_taken_lem x (Some d) = empty_is (card_at x d).down_link ∙ sym (ap not (and-true _))
 
+not-and : (a b : Bool) → not (a && b) ≡ (not a || not b)
+not-and true b = refl
+not-and false b = refl
+
 pub link_taken_lem : (x : State) (c : ℕ) (p : Plan ℕ) → link_taken x c p ≡ not (all_clear (reads x) (links_of c p))
 unfolding links_of
-link_taken_lem x c p =
-    let us : List Channel = cond p.up (UpLink c ∷ []) [] in
-    let ts : List Channel = cond p.turn (TurnLink c ∷ []) [] in
-    let ls : List Channel = down_link_to p.left in
-    let rs : List Channel = down_link_to p.right in
-    let u = up_taken x c p.up in
-    let t = turn_taken x c p.turn in
-    let l = down_taken_lem x p.left in
-    let r = down_taken_lem x p.right in
-    rw (u, t, l, r)
-    (rw (clear-append (reads x) us (ts ++ (ls ++ rs)), clear-append (reads x) ts (ls ++ rs), clear-append (reads x) ls rs)
-    (four (all_clear (reads x) us) (all_clear (reads x) ts) (all_clear (reads x) ls) (all_clear (reads x) rs)))
-  where
-    four : (a b c d : Bool) → (not a || (not b || (not c || not d))) ≡ not (a && (b && (c && d)))
-    four true true true d = refl
-    four true true false d = refl
-    four true false c d = refl
-    four false b c d = refl
+link_taken_lem x c p = simp (up_taken, turn_taken, down_taken_lem, clear-append, not-and)
 
 pub inbox_taken_lem : (x : State) (c : ℕ) (e : Here) → inbox_taken x c e ≡ (not (is_empty (kept_words e)) && leb inbox_room (length (card_at x c).inbox))
 unfolding kept_words is_empty
