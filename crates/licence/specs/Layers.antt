@@ -1,6 +1,5 @@
 -- The withdrawal layer.
 use Rattle.std.specs.Prelude.{ℕ, Bool, false, cond, List, replicate, slice_index_or, slice_set}
-use Rattle.licence.specs.declared.layer.Withdrawal.{Withdrawal}
 use Rattle.licence.specs.declared.verdict.Verdict.{Verdict}
 use Rattle.licence.specs.declared.verdict.Verdict.TheVariants.{Refuse}
 use Rattle.licence.specs.Keys.{all_keys}
@@ -18,14 +17,10 @@ fresh policy = record { below = policy; marks = replicate all_keys false }
 abbrev pub marked : {P : Type 0} → Layer P → ℕ → Bool → Layer P
 marked layer key mark = record { below = layer.below; marks = slice_set layer.marks key mark }
 
--- what a layer in hand means
-abbrev pub layer_in : {P : Type 0} → Withdrawal P → Layer P
-layer_in w = record { below = w.policy; marks = w.withdrawn }
-
 -- the key is withdrawn
-abbrev pub withdrawn_in : {P : Type 0} → Withdrawal P → ℕ → Bool
-withdrawn_in w key = slice_index_or w.withdrawn key false
+abbrev pub withdrawn_in : {P : Type 0} → Layer P → ℕ → Bool
+withdrawn_in layer key = slice_index_or layer.marks key false
 
 -- 'refuse' for a withdrawn key, and for the others what the policy below means
-abbrev pub layered : {P : Type 0} → (P → ℕ → ℕ → Verdict) → Withdrawal P → ℕ → ℕ → Verdict
-layered verdict w card key = cond (withdrawn_in w key) Refuse (verdict w.policy card key)
+abbrev pub layered : {P : Type 0} → (P → ℕ → ℕ → Verdict) → Layer P → ℕ → ℕ → Verdict
+layered verdict layer card key = cond (withdrawn_in layer key) Refuse (verdict layer.below card key)

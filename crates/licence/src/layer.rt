@@ -1,10 +1,11 @@
 // The layer of withdrawn keys.
 ghost use Rattle.std.specs.Prelude.{◌≡◌, true, false};
-ghost use Rattle.licence.specs.Layers.{fresh, marked, layer_in, withdrawn_in, layered};
+ghost use Rattle.licence.specs.Layers.{fresh, marked, withdrawn_in, layered};
 ghost use Rattle.std.proofs.Common.{rules};
 
 use crate::policy::Policy;
 use crate::verdict::Verdict;
+use std::marker::Model;
 
 // How many keys there are.
 const KEYS: usize = 256;
@@ -16,10 +17,19 @@ pub struct Withdrawal<P> {
     withdrawn: [bool; KEYS],
 }
 
+// Clauses see the policy below and the marks.
+impl<P> Model for Withdrawal<P> {
+    ghost use Rattle.licence.specs.Layers.{Layer};
+
+    ghost Value = { Layer P };
+
+    ghost view = { λ w. record { below = w.policy; marks = w.withdrawn } };
+}
+
 impl<P: Policy> Withdrawal<P> {
     // The layer over a policy, with no key withdrawn.
     pub fn over(policy: P) -> Withdrawal<P>
-        ensures { layer_in result ≡ fresh policy }
+        ensures { result ≡ fresh policy }
     {
         Withdrawal {
             policy,
@@ -29,24 +39,24 @@ impl<P: Policy> Withdrawal<P> {
 
     // Refuses the key from now on.
     pub fn withdraw(&mut self, key: u8)
-        ensures next { layer_in self.new ≡ marked (layer_in self.old) key true }
-        ensures again { withdrawn_in self.old key ≡ true → layer_in self.new ≡ layer_in self.old }
+        ensures next { self.new ≡ marked self.old key true }
+        ensures again { withdrawn_in self.old key ≡ true → self.new ≡ self.old }
     {
         self.set_mark(key, true);
     }
 
     // Leaves the key to the policy below again.
     pub fn restore(&mut self, key: u8)
-        ensures next { layer_in self.new ≡ marked (layer_in self.old) key false }
-        ensures again { withdrawn_in self.old key ≡ false → layer_in self.new ≡ layer_in self.old }
+        ensures next { self.new ≡ marked self.old key false }
+        ensures again { withdrawn_in self.old key ≡ false → self.new ≡ self.old }
     {
         self.set_mark(key, false);
     }
 
     // Writes whether the key is withdrawn.
     fn set_mark(&mut self, key: u8, mark: bool)
-        ensures next { layer_in self.new ≡ marked (layer_in self.old) key mark }
-        ensures again { withdrawn_in self.old key ≡ mark → layer_in self.new ≡ layer_in self.old }
+        ensures next { self.new ≡ marked self.old key mark }
+        ensures again { withdrawn_in self.old key ≡ mark → self.new ≡ self.old }
     {
         let place = usize::from(key);
         self.withdrawn[place] = mark;

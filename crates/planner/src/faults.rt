@@ -58,6 +58,7 @@ impl PlanFault {
     }
 }
 
+// By hand, since `thiserror` would ask `Debug` of the faults that it holds.
 impl fmt::Display for PlanFault {
     fn fmt<W: fmt::Write>(&self, f: &mut fmt::Formatter<W>) -> fmt::Result {
         match *self {

@@ -57,6 +57,7 @@ pub enum PacketFault {
     QueueFull,
 }
 
+// By hand, since a derived `From` says nothing that clauses can name.
 impl From<RouteFault> for PacketFault {
     ghost from_gives = { λ f r. r ≡ PacketRoute f };
 

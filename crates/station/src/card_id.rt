@@ -21,7 +21,7 @@ impl Model for CardId {
 }
 
 impl CardId {
-    // None above 30.
+    // None above 30. An `if` and no `then`, in whose closure the bound would not be known.
     pub fn new(number: u16) -> Option<CardId>
         ensures few { IsSome result ↔ (number < 31) }
         ensures same { IfSome result (λ c. c ≡ number) }

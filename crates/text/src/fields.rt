@@ -6,7 +6,8 @@ ghost use Rattle.text.specs.Parted.{Parted};
 
 use crate::spelling::Spelling;
 
-// What is left of a line: the text from the next field on, or nothing once the last field is cut off.
+// What is left of a line: the text from the next field on, or nothing once the last field is cut off. Clauses read it by `fields_left`: a `Copy`
+// struct with a lifetime may have no model.
 #[derive(Clone, Copy)]
 pub struct Fields<'a> {
     rest: Option<&'a [u8]>,

@@ -45,10 +45,8 @@ fn packets_checked(rt: HostRuntime) {
 
 // The next packet, as key, class and place.
 fn packet(reader: &mut Delivered) -> Option<(u8, u8, usize)> {
-    match reader.next() {
-        Ok(Some(arrival)) => Some((arrival.key, arrival.class, arrival.place)),
-        _ => None,
-    }
+    let arrival = reader.next().ok()??;
+    Some((arrival.key, arrival.class, arrival.place))
 }
 
 #[test]
