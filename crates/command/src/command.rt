@@ -1,0 +1,36 @@
+// What a line of the console says.
+use arrayvec::ArrayVec;
+use licence::Span;
+use station::{Input, Station};
+use std::alloc::Global;
+
+// The most words that a send line can spell: a line has at most 200 bytes.
+pub const MOST_WORDS: usize = 95;
+
+// A command. A number is kept as it is written: whether there is such a card, class or number of levels is not asked here.
+#[derive(Drop)]
+pub enum Command {
+    Tree {
+        levels: u16,
+    },
+    // No class stands for 'refuse'.
+    Rule {
+        cards: Span<u16>,
+        keys: Span<u8>,
+        class: Option<u16>,
+    },
+    Go,
+    Send {
+        card: u16,
+        packet: ArrayVec<u32, MOST_WORDS>,
+    },
+    Fire {
+        card: u16,
+        station: Station,
+        input: Input,
+    },
+    Take {
+        card: u16,
+    },
+    Owed,
+}
