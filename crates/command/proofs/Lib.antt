@@ -1,0 +1,3 @@
+pub mod SentWords
+pub mod Taken
+pub mod Naming

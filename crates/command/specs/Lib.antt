@@ -1,2 +1,6 @@
 pub mod Names
 pub mod Letters
+pub mod Packets
+pub mod Sizes
+pub mod Verbs
+pub mod Lines

@@ -4,7 +4,11 @@
 mod command;
 mod letters;
 mod names;
+mod reading;
+mod sending;
+mod verbs;
 
 pub use command::{Command, MOST_WORDS};
 pub use letters::RouteLetters;
 pub use names::{Class, FreeWord, InputName, ModeName, StationName};
+pub use reading::read;

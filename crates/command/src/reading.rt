@@ -1,0 +1,91 @@
+// A line of the console, read as a command.
+ghost use Rattle.std.specs.Prelude.{◌≡◌};
+ghost use Rattle.text.specs.Fields.{fields_left};
+ghost use Rattle.command.specs.Lines.{ended, tree_of, rule_of, fire_of, take_of, command_of};
+
+use crate::command::Command;
+use crate::names::{Class, InputName, StationName};
+use crate::sending::send;
+use crate::verbs::Verb;
+use licence::Span;
+use text::{Decimal, Fields, HexByte};
+
+// The command, if no field is left.
+fn end(command: Command, fields: Fields) -> Option<Command>
+    ensures { result ≡ ended command (fields_left fields.entry) }
+{
+    if fields.is_done() {
+        Some(command)
+    } else {
+        None
+    }
+}
+
+// The number of levels.
+fn tree(mut fields: Fields) -> Option<Command>
+    ensures { result ≡ tree_of (fields_left fields.entry) }
+{
+    let levels = fields.read::<Decimal>()?;
+    end(Command::Tree { levels }, fields)
+}
+
+// Low and high card, low and high key, and a class.
+fn rule(mut fields: Fields) -> Option<Command>
+    ensures { result ≡ rule_of (fields_left fields.entry) }
+{
+    let cards = Span {
+        low: fields.read::<Decimal>()?,
+        high: fields.read::<Decimal>()?,
+    };
+    let keys = Span {
+        low: fields.read::<HexByte>()?,
+        high: fields.read::<HexByte>()?,
+    };
+    let class = fields.read::<Class>()?;
+    end(Command::Rule { cards, keys, class }, fields)
+}
+
+// A card, its station and an input.
+fn fire(mut fields: Fields) -> Option<Command>
+    ensures { result ≡ fire_of (fields_left fields.entry) }
+{
+    let card = fields.read::<Decimal>()?;
+    let station = fields.read::<StationName>()?;
+    let input = fields.read::<InputName>()?;
+    end(
+        Command::Fire {
+            card,
+            station,
+            input,
+        },
+        fields,
+    )
+}
+
+// A card.
+fn take(mut fields: Fields) -> Option<Command>
+    ensures { result ≡ take_of (fields_left fields.entry) }
+{
+    let card = fields.read::<Decimal>()?;
+    end(Command::Take { card }, fields)
+}
+
+// The command of a line, or none where the line is not understood or has more than 200 bytes.
+#[tactic(auto, using(crate::proofs::Taken::line_takes, crate::proofs::Taken::send_takes))]
+pub fn read(line: &[u8]) -> Option<Command>
+    ensures { result ≡ command_of line.now }
+{
+    if line.len() > 200 {
+        return None;
+    }
+    let mut fields = Fields::new(line);
+    match fields.read::<Verb>()? {
+        Verb::Tree => tree(fields),
+        Verb::Rule => rule(fields),
+        Verb::Go => end(Command::Go, fields),
+        Verb::Send => send(fields),
+        Verb::Fire => fire(fields),
+        Verb::Take => take(fields),
+        Verb::Owed => end(Command::Owed, fields),
+    }
+}
