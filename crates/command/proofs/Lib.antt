@@ -1,3 +1,5 @@
 pub mod SentWords
 pub mod Taken
 pub mod Naming
+pub mod Saying
+pub mod Sound

@@ -4,3 +4,4 @@ pub mod Packets
 pub mod Sizes
 pub mod Verbs
 pub mod Lines
+pub mod Says

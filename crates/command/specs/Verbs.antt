@@ -4,15 +4,6 @@ use Rattle.std.specs.Str.{bytes_eq}
 use Rattle.command.specs.declared.verbs.Verb.{Verb}
 use Rattle.command.specs.declared.verbs.Verb.TheVariants.{Tree, Rule, Go, Send, Fire, Take, Owed}
 
-abbrev pub verb_word : Verb → List ℕ
-verb_word Tree = codes "tree"
-verb_word Rule = codes "rule"
-verb_word Go = codes "go"
-verb_word Send = codes "send"
-verb_word Fire = codes "fire"
-verb_word Take = codes "take"
-verb_word Owed = codes "owed"
-
 -- the verb of a word
 abbrev pub verb_named : List ℕ → Option Verb
 verb_named f =

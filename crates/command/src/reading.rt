@@ -1,7 +1,10 @@
 // A line of the console, read as a command.
-ghost use Rattle.std.specs.Prelude.{◌≡◌};
+ghost use Rattle.std.specs.Prelude.{◌≡◌, ◌≤◌, IfSome, Some};
+ghost use Rattle.command.specs.declared.command.Command.{Command as Said};
+ghost use Rattle.command.specs.Says.{Spells};
 ghost use Rattle.text.specs.Fields.{fields_left};
-ghost use Rattle.command.specs.Lines.{ended, tree_of, rule_of, fire_of, take_of, command_of};
+ghost use Rattle.command.specs.Sizes.{bytes_taken};
+ghost use Rattle.command.specs.Lines.{ended, tree_of, rule_of, fire_of, take_of, fields_command, command_of};
 
 use crate::command::Command;
 use crate::names::{Class, InputName, StationName};
@@ -70,15 +73,12 @@ fn take(mut fields: Fields) -> Option<Command>
     end(Command::Take { card }, fields)
 }
 
-// The command of a line, or none where the line is not understood or has more than 200 bytes.
-#[tactic(auto, using(crate::proofs::Taken::line_takes, crate::proofs::Taken::send_takes))]
-pub fn read(line: &[u8]) -> Option<Command>
-    ensures { result ≡ command_of line.now }
+// By the first field, what the others say. On a line of 200 bytes they take 201, with the line's end counted.
+#[tactic(auto, using(crate::proofs::Taken::send_takes))]
+fn command(mut fields: Fields) -> Option<Command>
+    requires { bytes_taken (fields_left fields) ≤ 201 }
+    ensures { result ≡ fields_command (fields_left fields.entry) }
 {
-    if line.len() > 200 {
-        return None;
-    }
-    let mut fields = Fields::new(line);
     match fields.read::<Verb>()? {
         Verb::Tree => tree(fields),
         Verb::Rule => rule(fields),
@@ -87,5 +87,19 @@ pub fn read(line: &[u8]) -> Option<Command>
         Verb::Fire => fire(fields),
         Verb::Take => take(fields),
         Verb::Owed => end(Command::Owed, fields),
+    }
+}
+
+// The command of a line, or none where the line is not understood or has more than 200 bytes.
+#[tactic(auto, using(crate::proofs::Taken::line_takes))]
+pub fn read(line: &[u8]) -> Option<Command>
+    ensures value { result ≡ command_of line.now }
+    ensures sound { IfSome result (Spells line.now) }
+    ensures complete { (c : Said) → Spells line.now c → result ≡ Some c }
+{
+    if line.len() > 200 {
+        None
+    } else {
+        command(Fields::new(line))
     }
 }

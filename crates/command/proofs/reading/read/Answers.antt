@@ -1,0 +1,15 @@
+use Rattle.std.proofs.Common.{rules}
+use Rattle.command.proofs.Sound.{sound, complete}
+use Rattle.command.proofs.reading.read.Goals as goal
+
+pub returns-then-line-gt200-clause-sound : goal.returns-then-line-gt200-clause-sound
+returns-then-line-gt200-clause-sound c = tt
+
+pub returns-then-line-gt200-clause-complete : goal.returns-then-line-gt200-clause-complete
+returns-then-line-gt200-clause-complete c = complete c.args.line.now _ (search rules)
+
+pub returns-else-line-gt200-clause-sound : goal.returns-else-line-gt200-clause-sound
+returns-else-line-gt200-clause-sound c = sound c.args.line.now _ (search rules)
+
+pub returns-else-line-gt200-clause-complete : goal.returns-else-line-gt200-clause-complete
+returns-else-line-gt200-clause-complete c = complete c.args.line.now _ (search rules)
