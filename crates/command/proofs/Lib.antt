@@ -3,3 +3,4 @@ pub mod Taken
 pub mod Naming
 pub mod Saying
 pub mod Sound
+pub mod Feeding

@@ -5,3 +5,4 @@ pub mod Sizes
 pub mod Verbs
 pub mod Lines
 pub mod Says
+pub mod Inputs

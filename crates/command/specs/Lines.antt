@@ -12,6 +12,7 @@ use Rattle.command.specs.Verbs.{verb_named}
 use Rattle.command.specs.Names.{mode_named, station_named, input_named, class_of, free_word_of}
 use Rattle.command.specs.Letters.{route_of}
 use Rattle.command.specs.Packets.{packet_of}
+use Rattle.command.specs.Sizes.{longest_line}
 
 -- what `read` makes of the first field, and then what `more` makes of that and of the other fields
 abbrev pub then_of : {X Y : Type 0} → (List ℕ → Option X) → List (List ℕ) → (X → List (List ℕ) → Option Y) → Option Y
@@ -78,6 +79,6 @@ said_after verbs.Owed fs = ended Owed fs
 abbrev pub fields_command : List (List ℕ) → Option Command
 fields_command fs = then_of verb_named fs said_after
 
--- a line has at most 200 bytes
+-- a longer line is no command
 abbrev pub command_of : List ℕ → Option Command
-command_of line = cond (nat_le (length line) 200) (fields_command (fields_of line)) None
+command_of line = cond (nat_le (length line) longest_line) (fields_command (fields_of line)) None

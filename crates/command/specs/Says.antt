@@ -13,6 +13,7 @@ use Rattle.command.specs.declared.command.Command.{Command}
 use Rattle.command.specs.declared.command.Command.TheVariants.{Tree, Rule, Go, Send, Fire, Take, Owed}
 use Rattle.command.specs.Letters.{route_of}
 use Rattle.command.specs.Packets.{packet_of}
+use Rattle.command.specs.Sizes.{longest_line}
 
 abbrev pub mode_letter : Mode → List ℕ
 mode_letter Target = codes "T"
@@ -53,9 +54,9 @@ pub data Says : List (List ℕ) → Command → Type 0 where
   says_take : (c : List ℕ) (card : ℕ) → decimal_of c ≡ Some card → Says (codes "take" ∷ c ∷ []) (Take card)
   says_owed : Says (codes "owed" ∷ []) Owed
 
--- a line of at most 200 bytes is parted by single spaces into fields that say the command
+-- the line, of 200 bytes at most, is parted by single spaces into fields that say the command
 pub record Spells (line : List ℕ) (c : Command) : Type 0 where
-  pub short : length line ≤ 200
+  pub short : length line ≤ longest_line
   pub fields : List (List ℕ)
   pub parted : Parted line fields
   pub says : Says fields c

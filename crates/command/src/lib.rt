@@ -3,6 +3,7 @@
 
 mod command;
 mod letters;
+mod line_buffer;
 mod names;
 mod reading;
 mod sending;
@@ -10,5 +11,6 @@ mod verbs;
 
 pub use command::{Command, MOST_WORDS};
 pub use letters::RouteLetters;
+pub use line_buffer::LineBuffer;
 pub use names::{Class, FreeWord, InputName, ModeName, StationName};
 pub use reading::read;

@@ -1,0 +1,89 @@
+-- An input that is read byte by byte says what its lines say.
+use Rattle.std.proofs.Common.{◌≡◌, ℕ, ◌+◌, ◌<◌, ◌≤◌, Bool, true, false, cond, leb, List, [], ◌∷◌, ◌++◌, length, take, map, set, Some, None, refl, sym, ap, ◌∙◌, arith, rules, append_assoc, append-nil, ap₂, length-append, length-take}
+use Rattle.std.specs.List.{slice_split, onto_first}
+use Rattle.std.proofs.lemmas.Bool.Decides.{nat_tests}
+use Rattle.std.proofs.lemmas.List.{take_all, take-append-le, take_more_set}
+use Rattle.std.proofs.lemmas.List.Splits.{length-slice_split}
+use Rattle.command.specs.Lines.{command_of}
+use Rattle.command.specs.Inputs.{is_newline, unless_last_empty, lines_of, said_last, followed, all_said}
+
+-- a byte is put at the end of those that are kept, while there is room
+pub keep_room : (bs : List ℕ) (n b : ℕ) → n < 201 → length bs ≡ 201 → take (n + 1) (set bs n b) ≡ take 201 (take n bs ++ b ∷ [])
+keep_room bs n b h l =
+    let some : length (take n bs ++ b ∷ []) ≤ 201 = simp (length-append, length-take) (omega arith) in
+    take_more_set bs n b (omega arith) ∙ sym (take_all 201 (take n bs ++ b ∷ []) some)
+
+pub keep_full : (bs : List ℕ) (n b : ℕ) → n ≡ 201 → length bs ≡ 201 → take n bs ≡ take 201 (take n bs ++ b ∷ [])
+keep_full bs n b h l =
+    let long : length (take n bs) ≡ 201 = simp length-take (omega arith) in
+    sym (take-append-le 201 (take n bs) (b ∷ []) (omega arith) ∙ take_all 201 (take n bs) (omega arith))
+
+-- 201 bytes of a line say what the whole line says
+long_says : (p : List ℕ) → 200 < length p → command_of p ≡ None
+long_says p h = let long : leb (length p) 200 ≡ false = search rules in rw long refl
+
+cut_by : (p : List ℕ) (short : Bool) → leb (length p) 200 ≡ short → command_of (take 201 p) ≡ command_of p
+cut_by p true e = ap command_of (take_all 201 p (grind (arith, nat_tests)))
+cut_by p false e =
+    let long : 200 < length p = grind (arith, nat_tests) in
+    let front : 200 < length (take 201 p) = simp length-take (omega arith) in
+    long_says (take 201 p) front ∙ sym (long_says p long)
+
+cut_says : (p : List ℕ) → command_of (take 201 p) ≡ command_of p
+cut_says p = cut_by p (leb (length p) 200) refl
+
+-- one byte more of a line of which 201 bytes are kept
+more_by : (p : List ℕ) (b : ℕ) (short : Bool) → leb (length p) 200 ≡ short → take 201 (take 201 p ++ b ∷ []) ≡ take 201 (p ++ b ∷ [])
+more_by p b true e = ap (λ q. take 201 (q ++ b ∷ [])) (take_all 201 p (grind (arith, nat_tests)))
+more_by p b false e =
+    let long : 200 < length p = grind (arith, nat_tests) in
+    let front : length (take 201 p) ≡ 201 = simp length-take (omega arith) in
+    sym (keep_full_of (take 201 p) b front) ∙ sym (take-append-le 201 p (b ∷ []) (omega arith))
+  where
+    keep_full_of : (h : List ℕ) (b : ℕ) → length h ≡ 201 → h ≡ take 201 (h ++ b ∷ [])
+    keep_full_of h b l = sym (take-append-le 201 h (b ∷ []) (omega arith) ∙ take_all 201 h (omega arith))
+
+cut_more : (p : List ℕ) (b : ℕ) → take 201 (take 201 p ++ b ∷ []) ≡ take 201 (p ++ b ∷ [])
+cut_more p b = more_by p b (leb (length p) 200) refl
+
+-- a part of a line before the lines that follow
+abbrev before : List ℕ → List (List ℕ) → List (List ℕ)
+before p [] = p ∷ []
+before p (l ∷ ls) = (p ++ l) ∷ ls
+
+before_nothing : (ls : List (List ℕ)) → 0 < length ls → before [] ls ≡ ls
+before_nothing [] h = absurd (omega arith)
+before_nothing (l ∷ ls) h = refl
+
+before_byte : (p : List ℕ) (b : ℕ) (ls : List (List ℕ)) → before (p ++ b ∷ []) ls ≡ before p (onto_first b ls)
+before_byte p b [] = refl
+before_byte p b (l ∷ ls) = rw append_assoc refl
+
+-- a line that others follow is not left out
+more_lines : (l : List ℕ) (ls : List (List ℕ)) → 0 < length ls → unless_last_empty (l ∷ ls) ≡ l ∷ unless_last_empty ls
+more_lines l [] h = absurd (omega arith)
+more_lines [] (m ∷ ls) h = refl
+more_lines (b ∷ l) (m ∷ ls) h = refl
+
+end_said : (p : List ℕ) → followed (said_last (take 201 p)) [] ≡ map command_of (unless_last_empty ((p ++ []) ∷ []))
+end_said [] = refl
+end_said (b ∷ p) = ap (λ c. c ∷ []) (cut_says (b ∷ p) ∙ ap (λ q. command_of (b ∷ q)) (sym (append-nil p)))
+
+all_after : (p bs : List ℕ) → all_said (take 201 p) bs ≡ map command_of (unless_last_empty (before p (slice_split is_newline bs)))
+all_after p [] = end_said p
+all_after p (b ∷ bs) =
+    let some : 0 < length (slice_split is_newline bs) = omega (arith, length-slice_split is_newline bs) in
+    elim (is_newline b) as (λ newline.
+    followed (cond newline (Some (command_of (take 201 p))) None) (all_said (cond newline [] (take 201 (take 201 p ++ b ∷ []))) bs) ≡
+    map command_of (unless_last_empty (before p (cond newline ([] ∷ slice_split is_newline bs) (onto_first b (slice_split is_newline bs)))))) [
+      | true ↦
+          rw (append-nil, more_lines p (slice_split is_newline bs) some)
+          (ap₂ (λ c cs. c ∷ cs) (cut_says p) (all_after [] bs ∙ ap (λ ls. map command_of (unless_last_empty ls)) (before_nothing (slice_split is_newline bs) some)))
+      | false ↦
+          ap (λ kept. all_said kept bs) (cut_more p b) ∙ (all_after (p ++ b ∷ []) bs ∙ ap (λ ls. map command_of (unless_last_empty ls)) (before_byte p b (slice_split is_newline bs)))
+    ]
+
+pub input_said : (input : List ℕ) → all_said [] input ≡ map command_of (lines_of input)
+input_said input =
+    let some : 0 < length (slice_split is_newline input) = omega (arith, length-slice_split is_newline input) in
+    all_after [] input ∙ ap (λ ls. map command_of (unless_last_empty ls)) (before_nothing (slice_split is_newline input) some)
