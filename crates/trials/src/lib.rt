@@ -8,6 +8,8 @@ mod fields;
 #[cfg(test)]
 mod licences;
 #[cfg(test)]
+mod lines;
+#[cfg(test)]
 mod packets;
 #[cfg(test)]
 mod refusals;
