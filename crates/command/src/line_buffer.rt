@@ -31,7 +31,7 @@ impl LineBuffer {
     // An input that is fed to it byte by byte makes the commands of its lines, in order.
     pub fn new() -> LineBuffer
         ensures empty { result ≡ [] }
-        ensures lines { (input : List ℕ) → all_said result input ≡ map command_of (lines_of input) }
+        ensures lines { (input : List ℕ) → all_said [] input ≡ map command_of (lines_of input) }
     {
         LineBuffer {
             bytes: [0; ROOM],
