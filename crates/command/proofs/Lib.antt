@@ -4,3 +4,4 @@ pub mod Naming
 pub mod Saying
 pub mod Sound
 pub mod Feeding
+pub mod Back

@@ -6,3 +6,4 @@ pub mod Verbs
 pub mod Lines
 pub mod Says
 pub mod Inputs
+pub mod Written
