@@ -19,6 +19,7 @@ use Rattle.command.specs.Says.{SaysClass, SaysWord, mode_letter, station_letter,
 use Rattle.command.specs.Says.Says.{says_tree, says_rule, says_go, says_send, says_fire, says_take, says_owed}
 use Rattle.command.specs.Written.{bit_letter, route_text, class_text, Usual, UsualReadBack}
 use Rattle.command.specs.Written.Usual.{usual_tree, usual_rule, usual_go, usual_send, usual_fire, usual_take, usual_owed}
+use Rattle.command.proofs.RouteBits.{read_says_route}
 use Rattle.command.proofs.Saying.{spelled_read}
 
 -- a text that is one field has no space
@@ -83,7 +84,7 @@ says : (fs : List (List ℕ)) (c : Command) → Usual fs c → Says fs c
 says _ _ (usual_tree l h) = says_tree _ l (decimal_back l h).1
 says _ _ (usual_rule a b j k v ha hb hj hk hv) = says_rule _ _ _ _ _ a b j k v (decimal_back a ha).1 (decimal_back b hb).1 (hex_byte_back false j hj).1 (hex_byte_back false k hk).1 (class_says v hv)
 says _ _ usual_go = says_go
-says _ _ (usual_send c m r k ws hc hr hk hw) = says_send _ _ _ _ c m r k ws (decimal_back c hc).1 (route_back r hr) (hex_byte_back false k hk).1 (words_say ws hw)
+says _ _ (usual_send c m r k ws hc hr hk hw) = says_send _ _ _ _ c m r k ws (decimal_back c hc).1 (read_says_route _ r (route_back r hr)) (hex_byte_back false k hk).1 (words_say ws hw)
 says _ _ (usual_fire c s i h) = says_fire _ c s i (decimal_back c h).1
 says _ _ (usual_take c h) = says_take _ c (decimal_back c h).1
 says _ _ usual_owed = says_owed

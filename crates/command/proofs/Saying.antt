@@ -18,6 +18,7 @@ use Rattle.command.specs.Lines.{words_of, fields_command, command_of}
 use Rattle.command.specs.Says.{SaysClass, SaysWord, mode_letter, station_letter, input_letter, Says, Spells}
 use Rattle.command.specs.Says.Says.{says_tree, says_rule, says_go, says_send, says_fire, says_take, says_owed}
 use Rattle.command.proofs.SentWords.{never}
+use Rattle.command.proofs.RouteBits.{says_route_read}
 
 -- each letter is read as the name that it is
 mode_read : (m : Mode) → mode_named (mode_letter m) ≡ Some m
@@ -59,7 +60,7 @@ says_read : (fs : List (List ℕ)) (c : Command) → Says fs c → fields_comman
 says_read _ _ (says_tree l levels a) = rw a refl
 says_read _ _ (says_rule a b j k v low high low_key high_key class ra rb rj rk rv) = rw (ra, rb, rj, rk, class_read v class rv) refl
 says_read _ _ says_go = refl
-says_read _ _ (says_send c r k ws card mode route key words rc rr rk sw) = rw (rc, mode_read mode, rr, rk, words_read ws words sw) refl
+says_read _ _ (says_send c r k ws card mode route key words rc rr rk sw) = rw (rc, mode_read mode, says_route_read r route rr, rk, words_read ws words sw) refl
 says_read _ _ (says_fire c card station input rc) = rw (rc, station_read station, input_read input) refl
 says_read _ _ (says_take c card rc) = rw rc refl
 says_read _ _ says_owed = refl

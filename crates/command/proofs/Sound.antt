@@ -27,6 +27,7 @@ use Rattle.command.specs.Says.{SaysClass, SaysWord, mode_letter, station_letter,
 use Rattle.command.specs.Says.Says.{says_tree, says_rule, says_go, says_send, says_fire, says_take, says_owed}
 use Rattle.command.proofs.SentWords.{never}
 use Rattle.command.proofs.Naming.{name_step, verb_word, verb_is}
+use Rattle.command.proofs.RouteBits.{read_says_route}
 use Rattle.command.proofs.Saying.{spelled_read}
 
 mode_is : (f : List ℕ) (m : Mode) → mode_named f ≡ Some m → f ≡ mode_letter m
@@ -149,7 +150,7 @@ send_said fs c e =
     then_read (λ fs. Says (codes "send" ∷ n ∷ m ∷ r ∷ fs) c) hex_byte_of fs (send_after_key card mode route) c e (λ k fs key rk e.
     mapped (λ ws. Send card (packed (packet_of mode route key ws))) (words_of fs) c e (λ ws are same.
     subst (Says (codes "send" ∷ n ∷ m ∷ r ∷ k ∷ fs)) same
-    (rw (mode_is m mode rm) (says_send n r k fs card mode route key ws rn rr rk (words_are fs ws are))))))))
+    (rw (mode_is m mode rm) (says_send n r k fs card mode route key ws rn (read_says_route r route rr) rk (words_are fs ws are))))))))
 
 after_said : (v : Verb) (fs : List (List ℕ)) (c : Command) → said_after v fs ≡ Some c → Says (verb_word v ∷ fs) c
 after_said verbs.Tree = tree_said

@@ -11,7 +11,7 @@ use Rattle.text.specs.Number.{decimal_of, hex_byte_of, hex_word_of}
 use Rattle.text.specs.Parted.{Parted}
 use Rattle.command.specs.declared.command.Command.{Command}
 use Rattle.command.specs.declared.command.Command.TheVariants.{Tree, Rule, Go, Send, Fire, Take, Owed}
-use Rattle.command.specs.Letters.{route_of}
+use Rattle.command.specs.Letters.{SaysRoute}
 use Rattle.command.specs.Packets.{packet_of}
 use Rattle.command.specs.Sizes.{longest_line}
 
@@ -47,7 +47,7 @@ pub data Says : List (List ℕ) → Command → Type 0 where
       Says (codes "rule" ∷ a ∷ b ∷ j ∷ k ∷ v ∷ []) (Rule (record { low = low; high = high }) (record { low = low_key; high = high_key }) class)
   says_go : Says (codes "go" ∷ []) Go
   says_send : (c r k : List ℕ) (ws : List (List ℕ)) (card : ℕ) (mode : Mode) (route key : ℕ) (words : List ℕ) →
-      decimal_of c ≡ Some card → route_of r ≡ Some route → hex_byte_of k ≡ Some key → AllZip SaysWord ws words →
+      decimal_of c ≡ Some card → SaysRoute r route → hex_byte_of k ≡ Some key → AllZip SaysWord ws words →
       Says (codes "send" ∷ c ∷ mode_letter mode ∷ r ∷ k ∷ ws) (Send card (record { items = packet_of mode route key words }))
   says_fire : (c : List ℕ) (card : ℕ) (station : Station) (input : Input) → decimal_of c ≡ Some card →
       Says (codes "fire" ∷ c ∷ station_letter station ∷ input_letter input ∷ []) (Fire card station input)
