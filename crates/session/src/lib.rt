@@ -1,0 +1,6 @@
+// A session of the console: what each command answers, and what becomes of the tree.
+#![tactic(auto)]
+
+mod fault;
+
+pub use fault::LineFault;
