@@ -1,1 +1,4 @@
 pub mod Faults
+pub mod Steps
+pub mod Rulebooks
+pub mod Ruled

@@ -2,5 +2,7 @@
 #![tactic(auto)]
 
 mod fault;
+mod rulebook;
 
 pub use fault::LineFault;
+pub use rulebook::Rulebook;
