@@ -1,1 +1,2 @@
 mod Meant
+mod Padded

@@ -1,4 +1,5 @@
 pub mod Faults
+pub mod Answers
 pub mod Steps
 pub mod Rulebooks
 pub mod Ruled
