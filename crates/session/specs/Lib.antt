@@ -3,3 +3,5 @@ pub mod Answers
 pub mod Steps
 pub mod Rulebooks
 pub mod Ruled
+pub mod Desks
+pub mod Consoles

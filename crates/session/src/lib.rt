@@ -2,9 +2,13 @@
 #![tactic(auto)]
 
 mod answer;
+mod calling;
+mod console;
 mod fault;
 mod rulebook;
+mod ruling;
 
 pub use answer::{Answer, Reply};
+pub use console::Console;
 pub use fault::LineFault;
 pub use rulebook::Rulebook;

@@ -1,0 +1,51 @@
+// The calls on a tree that runs.
+ghost use Rattle.std.specs.Prelude.{◌≡◌};
+ghost use Rattle.command.specs.declared.command.Command.TheVariants.{Fire};
+ghost use Rattle.session.specs.Desks.{called};
+ghost use Rattle.session.specs.Consoles.{tree_in};
+
+use crate::answer::Answer;
+use crate::fault::LineFault;
+use crate::rulebook::Rulebook;
+use command::Command;
+use router::Tree;
+use station::{Input, Station};
+use wiring::FullTree;
+
+// A fire, and the outputs that it wrote.
+fn fire(
+    tree: &mut Tree<FullTree, Rulebook>,
+    card: u16,
+    station: Station,
+    input: Input,
+) -> Result<Answer, LineFault>
+    ensures answer { result ≡ (called (tree_in tree.old) (Fire card station input)).answer }
+    ensures next { tree_in tree.new ≡ (called (tree_in tree.old) (Fire card station input)).next }
+{
+    let outputs = tree.fire(card, station, input)?;
+    Ok(Answer::Number(u32::from(outputs)))
+}
+
+// Makes the call that a command asks for. The other commands are for the parts before.
+pub(crate) fn call(
+    tree: &mut Tree<FullTree, Rulebook>,
+    command: &Command,
+) -> Result<Answer, LineFault>
+    ensures answer { result ≡ (called (tree_in tree.old) command.now).answer }
+    ensures next { tree_in tree.new ≡ (called (tree_in tree.old) command.now).next }
+{
+    match command {
+        Command::Send { card, packet } => {
+            tree.send(*card, packet.as_slice())?;
+            Ok(Answer::Done)
+        }
+        Command::Fire {
+            card,
+            station,
+            input,
+        } => fire(tree, *card, *station, *input),
+        Command::Take { card } => Ok(Answer::Word(tree.take(*card)?)),
+        Command::Owed => Ok(Answer::Number(tree.owed())),
+        Command::Tree { .. } | Command::Rule { .. } | Command::Go => Err(LineFault::NotUnderstood),
+    }
+}
