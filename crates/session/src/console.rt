@@ -7,8 +7,10 @@ use crate::answer::Answer;
 use crate::calling::call;
 use crate::fault::LineFault;
 use crate::rulebook::Rulebook;
+use crate::ruling::add_rule;
 use command::Command;
 use router::Tree;
+use std::mem;
 use wiring::FullTree;
 
 // What the console is.
@@ -28,5 +30,37 @@ impl Console {
         ensures { desk_of result ≡ waiting }
     {
         Console::Waiting
+    }
+
+    // Carries out a command, or refuses it and changes nothing.
+    pub fn obey(&mut self, command: &Command) -> Result<Answer, LineFault>
+        ensures answer { result ≡ (obeyed (desk_of self.old) command.now).answer }
+        ensures next { desk_of self.new ≡ (obeyed (desk_of self.old) command.now).next }
+    {
+        match self {
+            Console::Waiting => {
+                let Command::Tree { levels } = command else {
+                    return Err(LineFault::NotUnderstood);
+                };
+                *self = Console::Ruling {
+                    wiring: FullTree::new(*levels)?,
+                    rules: Rulebook::new(),
+                };
+                Ok(Answer::Done)
+            }
+            Console::Ruling { wiring, rules } => match command {
+                Command::Rule { cards, keys, class } => {
+                    add_rule(rules, *cards, *keys, *class)?;
+                    Ok(Answer::Done)
+                }
+                Command::Go => {
+                    let rules = mem::replace(rules, Rulebook::new());
+                    *self = Console::Running(Tree::new(*wiring, rules));
+                    Ok(Answer::Done)
+                }
+                _ => Err(LineFault::NotUnderstood),
+            },
+            Console::Running(tree) => call(tree, command),
+        }
     }
 }
