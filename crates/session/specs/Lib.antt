@@ -5,3 +5,4 @@ pub mod Rulebooks
 pub mod Ruled
 pub mod Desks
 pub mod Consoles
+pub mod Sessions

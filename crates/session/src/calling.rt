@@ -1,8 +1,9 @@
 // The calls on a tree that runs.
 ghost use Rattle.std.specs.Prelude.{◌≡◌};
 ghost use Rattle.command.specs.declared.command.Command.TheVariants.{Fire};
-ghost use Rattle.session.specs.Desks.{called};
+ghost use Rattle.session.specs.Desks.{running, called};
 ghost use Rattle.session.specs.Consoles.{tree_in};
+ghost use Rattle.session.specs.Sessions.{KeepsOn};
 
 use crate::answer::Answer;
 use crate::fault::LineFault;
@@ -21,6 +22,7 @@ fn fire(
 ) -> Result<Answer, LineFault>
     ensures answer { result ≡ (called (tree_in tree.old) (Fire card station input)).answer }
     ensures next { tree_in tree.new ≡ (called (tree_in tree.old) (Fire card station input)).next }
+    ensures laws { KeepsOn (Fire card station input) (running (tree_in tree.old)) (running (tree_in tree.new)) }
 {
     let outputs = tree.fire(card, station, input)?;
     Ok(Answer::Number(u32::from(outputs)))
@@ -33,6 +35,7 @@ pub(crate) fn call(
 ) -> Result<Answer, LineFault>
     ensures answer { result ≡ (called (tree_in tree.old) command.now).answer }
     ensures next { tree_in tree.new ≡ (called (tree_in tree.old) command.now).next }
+    ensures laws { KeepsOn command.now (running (tree_in tree.old)) (running (tree_in tree.new)) }
 {
     match command {
         Command::Send { card, packet } => {
