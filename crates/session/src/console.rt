@@ -2,6 +2,7 @@
 ghost use Rattle.std.specs.Prelude.{◌≡◌};
 ghost use Rattle.session.specs.Desks.{waiting, obeyed};
 ghost use Rattle.session.specs.Consoles.{desk_of};
+ghost use Rattle.session.specs.Sessions.{KeepsOn};
 
 use crate::answer::Answer;
 use crate::calling::call;
@@ -36,6 +37,7 @@ impl Console {
     pub fn obey(&mut self, command: &Command) -> Result<Answer, LineFault>
         ensures answer { result ≡ (obeyed (desk_of self.old) command.now).answer }
         ensures next { desk_of self.new ≡ (obeyed (desk_of self.old) command.now).next }
+        ensures laws { KeepsOn command.now (desk_of self.old) (desk_of self.new) }
     {
         match self {
             Console::Waiting => {
