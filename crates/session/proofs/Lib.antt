@@ -1,3 +1,4 @@
 mod Meant
 mod Padded
+mod SoFar
 mod Standing

@@ -5,7 +5,7 @@ use Rattle.router.specs.Kept.{Led, Stands}
 use Rattle.command.specs.declared.command.Command.{Command}
 use Rattle.command.specs.declared.command.Command.TheVariants.{Send, Fire, Take, Owed}
 use Rattle.session.specs.declared.fault.LineFault.{LineFault}
-use Rattle.session.specs.Desks.{Desk, waiting, running, obeyed}
+use Rattle.session.specs.Desks.{Desk, running, obeyed}
 
 -- the call that a command makes on a tree, if it makes one
 abbrev pub call_of : Command → List Call
@@ -43,10 +43,6 @@ after d (command ∷ more) = after (obeyed d command).next more
 abbrev pub calls_made : Desk → List Command → List Call
 calls_made d [] = []
 calls_made d (command ∷ more) = call_made d command ++ calls_made (obeyed d command).next more
-
--- after whatever commands from the start, the tree that runs is where the calls made since `go` lead, and there the three laws hold
-abbrev pub SessionsStand : Type 0
-SessionsStand = (commands : List Command) → StandsBy (calls_made waiting commands) (after waiting commands)
 
 -- a refused command changes nothing, whatever the console is
 abbrev pub RefusedChangeNothing : Type 0

@@ -7,8 +7,10 @@ mod console;
 mod fault;
 mod rulebook;
 mod ruling;
+mod sessions;
 
 pub use answer::{Answer, Reply};
 pub use console::Console;
 pub use fault::LineFault;
 pub use rulebook::Rulebook;
+pub use sessions::replay;
