@@ -2,3 +2,4 @@ mod Meant
 mod Padded
 mod SoFar
 mod Standing
+mod Unchanged

@@ -2,7 +2,7 @@
 ghost use Rattle.std.specs.Prelude.{◌≡◌};
 ghost use Rattle.session.specs.Desks.{waiting};
 ghost use Rattle.session.specs.Consoles.{desk_of};
-ghost use Rattle.session.specs.Sessions.{StandsBy, after, calls_made};
+ghost use Rattle.session.specs.Sessions.{RefusedChangeNothing, StandsBy, after, calls_made};
 
 use crate::console::Console;
 use command::Command;
@@ -18,3 +18,8 @@ pub fn replay(commands: &[Command]) -> Console
     }
     console
 }
+
+// Whatever the console is, a command that it refuses leaves it as it was.
+pub fn refused_commands_change_nothing()
+    ensures { RefusedChangeNothing }
+{}

@@ -1,0 +1,5 @@
+use Rattle.session.proofs.Unchanged.{refused_change_nothing}
+use Rattle.session.proofs.sessions.refused_commands_change_nothing.Goals as goal
+
+pub returns : goal.returns
+returns c = refused_change_nothing
