@@ -1,5 +1,5 @@
--- A refused command changes nothing.
-use Rattle.std.proofs.Common.{◌≡◌, ℕ, List, length, Ok, Err, Result, refl, sym, ap, ◌∙◌, arith}
+-- A refused line changes nothing.
+use Rattle.std.proofs.Common.{◌≡◌, ℕ, List, length, Some, None, Ok, Err, Result, refl, sym, ap, ◌∙◌, arith}
 use Rattle.refusal.specs.declared.build.WiringFault.{WiringFault}
 use Rattle.refusal.specs.declared.build.LicenceFault.{LicenceFault}
 use Rattle.refusal.specs.declared.send.PacketFault.{PacketFault}
@@ -21,7 +21,7 @@ use Rattle.command.specs.declared.command.Command.TheVariants.{Tree, Rule, Go, S
 use Rattle.session.specs.declared.answer.Answer.TheVariants.{Done, Number, Word}
 use Rattle.session.specs.declared.fault.LineFault.{LineFault}
 use Rattle.session.specs.declared.fault.LineFault.TheVariants.{Packet as LinePacket, Fire as LineFire, Take as LineTake}
-use Rattle.session.specs.Desks.{Outcome, waiting, ruling, running, founded, laid_down, with_rule, carried, answered, called}
+use Rattle.session.specs.Desks.{Desk, Outcome, waiting, ruling, running, obeyed, founded, laid_down, with_rule, carried, answered, called}
 use Rattle.session.specs.Sessions.{RefusedChangeNothing}
 
 -- where the outcome is a refusal, the old stands
@@ -64,10 +64,14 @@ module _ (m : Meaning) where
   call_same (Take c) f e = take_same c (take_answer c m) refl f e
   call_same k f e = refl
 
+obeyed_same : (d : Desk) (k : Command) → Unchanged d (obeyed d k)
+obeyed_same waiting (Tree l) f e = founded_same (full_tree l) f e
+obeyed_same waiting k f e = refl
+obeyed_same (ruling s rules) (Rule cards keys class) f e = laid_same s rules (with_rule rules (range_of cards keys (carried class))) f e
+obeyed_same (ruling s rules) Go f e = absurd (grind arith)
+obeyed_same (ruling s rules) k f e = refl
+obeyed_same (running m) k f e = ap running (call_same m k f e)
+
 pub refused_change_nothing : RefusedChangeNothing
-refused_change_nothing waiting (Tree l) f e = founded_same (full_tree l) f e
-refused_change_nothing waiting k f e = refl
-refused_change_nothing (ruling s rules) (Rule cards keys class) f e = laid_same s rules (with_rule rules (range_of cards keys (carried class))) f e
-refused_change_nothing (ruling s rules) Go f e = absurd (grind arith)
-refused_change_nothing (ruling s rules) k f e = refl
-refused_change_nothing (running m) k f e = ap running (call_same m k f e)
+refused_change_nothing d (Some k) f e = obeyed_same d k f e
+refused_change_nothing d None f e = refl

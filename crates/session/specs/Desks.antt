@@ -81,3 +81,8 @@ obeyed (ruling shape rules) (Rule cards keys class) = laid_down shape rules (wit
 obeyed (ruling shape rules) Go = done (running (new_tree shape (verdicts_of rules)))
 obeyed (ruling shape rules) other = misplaced (ruling shape rules)
 obeyed (running m) command = let o = called m command in record { next = running o.next; answer = o.answer }
+
+-- what a line comes to, by the command that it says; a line that says none is not understood
+abbrev pub heard : Desk → Option Command → Outcome Desk
+heard d (Some command) = obeyed d command
+heard d None = misplaced d

@@ -1,5 +1,5 @@
 // The calls on a tree that runs.
-ghost use Rattle.std.specs.Prelude.{◌≡◌};
+ghost use Rattle.std.specs.Prelude.{◌≡◌, Some};
 ghost use Rattle.command.specs.declared.command.Command.TheVariants.{Fire};
 ghost use Rattle.session.specs.Desks.{running, called};
 ghost use Rattle.session.specs.Consoles.{tree_in};
@@ -22,7 +22,7 @@ fn fire(
 ) -> Result<Answer, LineFault>
     ensures answer { result ≡ (called (tree_in tree.old) (Fire card station input)).answer }
     ensures next { tree_in tree.new ≡ (called (tree_in tree.old) (Fire card station input)).next }
-    ensures laws { KeepsOn (Fire card station input) (running (tree_in tree.old)) (running (tree_in tree.new)) }
+    ensures laws { KeepsOn (Some (Fire card station input)) (running (tree_in tree.old)) (running (tree_in tree.new)) }
 {
     let outputs = tree.fire(card, station, input)?;
     Ok(Answer::Number(u32::from(outputs)))
@@ -35,7 +35,7 @@ pub(crate) fn call(
 ) -> Result<Answer, LineFault>
     ensures answer { result ≡ (called (tree_in tree.old) command.now).answer }
     ensures next { tree_in tree.new ≡ (called (tree_in tree.old) command.now).next }
-    ensures laws { KeepsOn command.now (running (tree_in tree.old)) (running (tree_in tree.new)) }
+    ensures laws { KeepsOn (Some command.now) (running (tree_in tree.old)) (running (tree_in tree.new)) }
 {
     match command {
         Command::Send { card, packet } => {

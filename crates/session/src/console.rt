@@ -1,6 +1,6 @@
 // The console: it waits for a tree, then takes the rules, then the tree runs.
-ghost use Rattle.std.specs.Prelude.{◌≡◌};
-ghost use Rattle.session.specs.Desks.{waiting, obeyed};
+ghost use Rattle.std.specs.Prelude.{◌≡◌, Some};
+ghost use Rattle.session.specs.Desks.{waiting, obeyed, heard};
 ghost use Rattle.session.specs.Consoles.{desk_of};
 ghost use Rattle.session.specs.Sessions.{KeepsOn};
 
@@ -37,7 +37,7 @@ impl Console {
     pub fn obey(&mut self, command: &Command) -> Result<Answer, LineFault>
         ensures answer { result ≡ (obeyed (desk_of self.old) command.now).answer }
         ensures next { desk_of self.new ≡ (obeyed (desk_of self.old) command.now).next }
-        ensures laws { KeepsOn command.now (desk_of self.old) (desk_of self.new) }
+        ensures laws { KeepsOn (Some command.now) (desk_of self.old) (desk_of self.new) }
     {
         match self {
             Console::Waiting => {
@@ -63,6 +63,18 @@ impl Console {
                 _ => Err(LineFault::NotUnderstood),
             },
             Console::Running(tree) => call(tree, command),
+        }
+    }
+
+    // Answers a line, by the command that it says. A line that says none is not understood.
+    pub fn hear(&mut self, said: &Option<Command>) -> Result<Answer, LineFault>
+        ensures answer { result ≡ (heard (desk_of self.old) said.now).answer }
+        ensures next { desk_of self.new ≡ (heard (desk_of self.old) said.now).next }
+        ensures laws { KeepsOn said.now (desk_of self.old) (desk_of self.new) }
+    {
+        match said {
+            Some(command) => self.obey(command),
+            None => Err(LineFault::NotUnderstood),
         }
     }
 }

@@ -13,4 +13,4 @@ pub use answer::{Answer, Reply};
 pub use console::Console;
 pub use fault::LineFault;
 pub use rulebook::Rulebook;
-pub use sessions::{refused_commands_change_nothing, replay};
+pub use sessions::{refused_lines_change_nothing, replay};

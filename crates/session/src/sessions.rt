@@ -7,19 +7,19 @@ ghost use Rattle.session.specs.Sessions.{RefusedChangeNothing, StandsBy, after, 
 use crate::console::Console;
 use command::Command;
 
-// The console after these commands from the start. A refused one changes nothing, and the session goes on.
-pub fn replay(commands: &[Command]) -> Console
-    ensures next { desk_of result ≡ after waiting commands.now }
-    ensures laws { StandsBy (calls_made waiting commands.now) (desk_of result) }
+// The console after a session from the start: lines that say these commands, or none.
+pub fn replay(session: &[Option<Command>]) -> Console
+    ensures next { desk_of result ≡ after waiting session.now }
+    ensures laws { StandsBy (calls_made waiting session.now) (desk_of result) }
 {
     let mut console = Console::new();
-    for command in commands {
-        let _ = console.obey(command);
+    for said in session {
+        let _ = console.hear(said);
     }
     console
 }
 
-// Whatever the console is, a command that it refuses leaves it as it was.
-pub fn refused_commands_change_nothing()
+// Whatever the console is, a line that it refuses leaves it as it was.
+pub fn refused_lines_change_nothing()
     ensures { RefusedChangeNothing }
 {}

@@ -1,4 +1,5 @@
 use Rattle.std.proofs.Common.{refl, arith}
+use Rattle.session.specs.Sessions.{call_of}
 use Rattle.session.proofs.Standing.{stays}
 use Rattle.session.proofs.calling.call.Goals as goal
 
@@ -27,10 +28,10 @@ pub returns-in-Owed-clause-laws : goal.returns-in-Owed-clause-laws
 returns-in-Owed-clause-laws c = rw c.in-Owed.is c.owed.ensures.laws
 
 pub returns-in-Tree-clause-laws : goal.returns-in-Tree-clause-laws
-returns-in-Tree-clause-laws c = let i = c.in-Tree.is in stays _ c.args.tree.now.wiring refl c.args.command.now (grind arith)
+returns-in-Tree-clause-laws c = let i = c.in-Tree.is in stays _ c.args.tree.now.wiring refl (call_of c.args.command.now) (grind arith)
 
 pub returns-in-Tree-2-clause-laws : goal.returns-in-Tree-2-clause-laws
-returns-in-Tree-2-clause-laws c = let i = c.in-Tree.is in stays _ c.args.tree.now.wiring refl c.args.command.now (grind arith)
+returns-in-Tree-2-clause-laws c = let i = c.in-Tree.is in stays _ c.args.tree.now.wiring refl (call_of c.args.command.now) (grind arith)
 
 pub returns-in-Tree-3-clause-laws : goal.returns-in-Tree-3-clause-laws
-returns-in-Tree-3-clause-laws c = let i = c.in-Tree.is in stays _ c.args.tree.now.wiring refl c.args.command.now (grind arith)
+returns-in-Tree-3-clause-laws c = let i = c.in-Tree.is in stays _ c.args.tree.now.wiring refl (call_of c.args.command.now) (grind arith)

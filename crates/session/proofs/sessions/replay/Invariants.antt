@@ -3,5 +3,5 @@ use Rattle.session.specs.Consoles.{desk_of}
 use Rattle.session.proofs.SoFar.{SoFar}
 use Rattle.session.proofs.sessions.replay.Given as goal
 
-abbrev pub invariant-loop-command : goal.invariant-loop-command
-invariant-loop-command l = SoFar (take l.command-index l.commands) (desk_of l.console)
+abbrev pub invariant-loop-said : goal.invariant-loop-said
+invariant-loop-said l = SoFar (take l.said-index l.session) (desk_of l.console)
