@@ -1,0 +1,71 @@
+// Range rules as a host writes them.
+ghost use Rattle.std.specs.Prelude.{◌≡◌, List, map};
+ghost use Rattle.licence.specs.Granted.{granted};
+ghost use Rattle.licence.specs.Rules.{rule_in};
+ghost use Rattle.host.specs.Lines.{verdict_of, rule_of_line, with_rule, book_of_lines};
+ghost use Rattle.host.specs.Steps.{told, kept};
+ghost use Rattle.host.specs.Rulebooks.{rules_meant};
+
+use crate::rulebook::Rulebook;
+use licence::{RangeRule, Span, Verdict};
+use refusal::LicenceFault;
+
+// A rule for the cards and the keys from low to high, both counted; the class is 0 to 3, or 255 for 'refuse'.
+#[repr(C)]
+#[derive(Clone, Copy)]
+pub struct RuleLine {
+    pub low_card: u16,
+    pub high_card: u16,
+    pub low_key: u8,
+    pub high_key: u8,
+    pub class: u8,
+}
+
+// The class that stands for 'refuse'.
+const REFUSE: u8 = 255;
+
+fn verdict_of(class: u8) -> Verdict
+    ensures { result ≡ verdict_of class }
+{
+    if class == REFUSE {
+        Verdict::Refuse
+    } else {
+        Verdict::Class(class)
+    }
+}
+
+impl RuleLine {
+    // The rule that the line states.
+    fn rule(&self) -> Result<RangeRule, LicenceFault>
+        ensures { granted rule_in result ≡ rule_of_line self.now }
+    {
+        let cards = Span {
+            low: self.low_card,
+            high: self.high_card,
+        };
+        let keys = Span {
+            low: self.low_key,
+            high: self.high_key,
+        };
+        RangeRule::new(cards, keys, verdict_of(self.class))
+    }
+}
+
+// Adds the rule that a line states behind the others.
+fn add_line(book: &mut Rulebook, line: &RuleLine) -> Result<(), LicenceFault>
+    ensures answer { result ≡ told (with_rule (rules_meant book.old) (rule_of_line line.now)) }
+    ensures next { rules_meant book.new ≡ kept (rules_meant book.old) (with_rule (rules_meant book.old) (rule_of_line line.now)) }
+{
+    book.add(line.rule()?)
+}
+
+// The rules that the lines state, in their order. The first line that is refused decides.
+pub(crate) fn read_rules(lines: &[RuleLine]) -> Result<Rulebook, LicenceFault>
+    ensures { granted rules_meant result ≡ book_of_lines lines.now }
+{
+    let mut book = Rulebook::new();
+    for line in lines {
+        add_line(&mut book, line)?;
+    }
+    Ok(book)
+}

@@ -1,0 +1,60 @@
+// Setting a tree up, and setting it up anew.
+ghost use Rattle.std.specs.Prelude.{◌≡◌};
+ghost use Rattle.host.specs.Lines.{book_of_lines};
+ghost use Rattle.host.specs.SetUps.{SetUp, FullSetUp, WiredSetUp, Single, shape_told};
+
+use crate::lines::{RuleLine, read_rules};
+use crate::rulebook::Rulebook;
+use crate::told::refused;
+use crate::tree::HostTree;
+use planner::Cabinet;
+use refusal::{Fault, WiringFault};
+use router::Tree;
+use wiring::{FullTree, WiredTree};
+
+impl HostTree {
+    // The tree of one card and no rules: what stands before the first set-up.
+    pub fn single() -> HostTree
+        ensures { Single result }
+    {
+        let wiring = Cabinet::Full(FullTree::new(1).unwrap());
+        HostTree {
+            wiring,
+            tree: Tree::new(wiring, Rulebook::new()),
+        }
+    }
+
+    // A new tree of this wiring and these rules. The wiring is judged first; what is refused leaves the tree as it was.
+    fn set_up(&mut self, wiring: Result<Cabinet, WiringFault>, lines: &[RuleLine]) -> u64
+        ensures { SetUp (shape_told wiring) (book_of_lines lines.now) self.old result self.new }
+    {
+        let wiring = match wiring {
+            Ok(wiring) => wiring,
+            Err(fault) => return refused(fault.refusal()),
+        };
+        match read_rules(lines) {
+            Ok(rules) => {
+                *self = HostTree {
+                    wiring,
+                    tree: Tree::new(wiring, rules),
+                };
+                0
+            }
+            Err(fault) => refused(fault.refusal()),
+        }
+    }
+
+    // A new full tree of so many levels.
+    pub fn set_full(&mut self, levels: u16, lines: &[RuleLine]) -> u64
+        ensures { FullSetUp levels lines.now self.old result self.new }
+    {
+        self.set_up(FullTree::new(levels).map(Cabinet::Full), lines)
+    }
+
+    // A new tree, that the table lists.
+    pub fn set_wired(&mut self, table: &[u8], lines: &[RuleLine]) -> u64
+        ensures { WiredSetUp table.now lines.now self.old result self.new }
+    {
+        self.set_up(WiredTree::new(table).map(Cabinet::Wired), lines)
+    }
+}

@@ -1,0 +1,11 @@
+// The tree that a host holds.
+use crate::rulebook::Rulebook;
+use planner::Cabinet;
+use router::Tree;
+
+// A tree of either wiring with range rules. The wiring stands here once more, since route orders read it.
+#[derive(Drop)]
+pub struct HostTree {
+    pub(crate) wiring: Cabinet,
+    pub(crate) tree: Tree<Cabinet, Rulebook>,
+}
