@@ -2,4 +2,5 @@
 #![tactic(auto)]
 
 mod calls;
+mod reads;
 mod set_up;

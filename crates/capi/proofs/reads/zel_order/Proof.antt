@@ -1,0 +1,51 @@
+-- The tree is lent to the call to read, and lies there again as it was.
+use Rattle.capi.proofs.Steps.{ℕ, [], ◌∷◌, ◌++◌, refl, w16, w64, proved, full_share, id⊢, ftrue, flft, flent, named, vptr, fact, tables, WpFn, owns, ‵, raw, ◌⊛◌, some, later, prop, ◌$◌, ◌∵◌, !, qed, done, move, keep, drop, use1, use2, split, join, fsplit, pick, await, regoal, suffices, frame, group, lft_new, lft_end, lent_back, enter, of_opd, addr, stop, no_more, and_then, returns, alloc_all, pass_all, free_all, look_at, get, through, sets, lands_as, u16, u64, yes, Is, shows, Incl-refl, lends_shr, part_at, uint_vals, uint_Tells, uint_Lawful, SliceRefOf, ShrSlice, shr_slice_vals, shr_slice_Tells, Ptr, RawPtr, block_ptr, in_a_block, rawptr_vals, rawptr_Tells, ShrRef, plain, nothing, says, heard, peeks, calls_at, lasts, triple_of, Stays, walk_of, stay_dropped, Goes-dropped, ends_at, framed}
+use Rattle.host.specs.contracts.tree.HostTree.{the_row as R}
+use Rattle.host.proofs.tree.HostTree.TheLaws.{the_within, the_row_laws}
+use Rattle.host.specs.Calls.{Planned}
+use Rattle.capi.specs.Memory.{tree_at}
+use Rattle.capi.specs.contracts.reads.zel_order as f
+use Rattle.capi.proofs.reads.zel_order.Statement.{statement}
+use Rattle.capi.proofs.reads.zel_order.Code as code
+use Rattle.host.specs.contracts.tree.HostTree.order as g
+use Rattle.host.proofs.tree.HostTree.order.Met.{met}
+
+abbrev stayed : Stays f.ended.signature.params f.ended.kept
+stayed = (stay_dropped _ yes, (stay_dropped _ yes, (stay_dropped _ yes, tt)))
+
+pub zel_order_spec : {M : Type 1} → statement M
+zel_order_spec 𝓤 𝓛 𝓜 𝓡 wired =
+    let c = f.clauses 𝓛 𝓜.mem 𝓡.returns in let W = walk_of 𝓛 f.ended stayed c in let 𝓣 = tables 𝓤 𝓛.H 𝓜 𝓡 𝓡.env in
+    proved 𝓛 f.ended stayed c 𝓜 𝓡 (Goes-dropped 𝓛 1 (plain (λ _. RawPtr)) yes (λ κs x w. refl), (Goes-dropped 𝓛 1 (plain (λ _. u16)) yes (λ κs x w. refl), (Goes-dropped 𝓛 1 (SliceRefOf (0 ∷ []) tt (plain (λ _. u16)) (λ κs. tt)) yes (λ κs x w. refl), tt)))
+    f.Key.name code.function (code.unfolded 𝓤 𝓛.H 𝓜 𝓡 wired)
+    (λ κs. (rawptr_vals, (uint_vals w16, (shr_slice_vals, tt)))) (λ κs. (rawptr_Tells, (uint_Tells w16, (shr_slice_Tells (named 0) κs.0 u16, tt)))) (λ κs qs bounds a before are.
+    let x1 = a.1.0 in let x2 = a.1.1.0 in
+    let y : Ptr → W.Ghost = λ p. ((κs, qs, bounds, (p, (x1, (x2, tt))), (rawptr_vals p, (uint_vals w16 x1, (shr_slice_vals x2, tt)))), before) in
+    qed 𝓛 (((‵ (flft κs.0 qs.0) ⊛ ‵ ftrue) ⊛ ‵ (owns (RawPtr ∷ u16 ∷ ShrSlice (named 0) κs.0 u16 ∷ []) a (y a.0).0.4)) ∷ ‵ (tree_at a.0 before) ∷ []) ∵
+    split ! $ move ! (1 ∷ []) $ fsplit ! $ move ! (1 ∷ []) $ fsplit ! $ move ! (1 ∷ []) $ fsplit ! $ keep ! (5 ∷ 0 ∷ 2 ∷ 4 ∷ []) $
+    -- [the tree; the arguments, the last one first; the tokens]
+    in_a_block ! a.0 (λ p. tree_at p before) (id⊢ 𝓤 _) (λ b o e.
+    regoal ! (λ p. prop (WpFn 𝓤 𝓛.H 𝓣.C 𝓣.Λ code.function (rawptr_vals p ++ (uint_vals w16 x1 ++ (shr_slice_vals x2 ++ []))) (W.post (y p)))) e refl $
+    enter ! _ _ _ _ _ $ alloc_all ! (λ l. pass_all ! refl ((tt, tt), ((tt, record { fits = are.1.0.1 }), ((tt, (tt, (record { fits = are.1.1.0.0.1.0 }, tt))), tt))) $
+    sets ! (of_opd ! (get ! refl)) refl (tt, tt) $ sets ! (addr ! (through ! refl (stop !))) refl (tt, tt) $
+    lft_new ! tt (λ α. let κ = α ∷ [] in move ! (1 ∷ 0 ∷ []) $
+    use2 𝓛 (later ((‵ ((ShrRef (named 0) κ R).own_val (record { ref_ptr = (b, o); now = before }) (vptr b o ∷ [])) ⊛ ‵ (flent κ (part_at R full_share before b o))) ⊛ ‵ (flft κ full_share)))
+    (lends_shr 𝓛 R (named 0) κ full_share before b o R.lives (the_row_laws.shares 𝓛 before) ((κ, full_share) ∷ []) (the_within κ) (Incl-refl κ)) $
+    await ! tt $ split ! $ split ! $
+    -- [the loan; the lender's part; the token; the arguments; the tokens; the locals]
+    let G = triple_of 𝓛 g.signature (g.spec 𝓛 𝓜.mem 𝓡.returns) in
+    let z : G.Ghost = (((κ, (κs.0, tt)), (full_share, (qs.0, tt)), tt, (record { ref_ptr = (b, o); now = before }, (x1, (x2, tt))), (vptr b o ∷ [], (uint_vals w16 x1, (shr_slice_vals x2, tt)))), tt) in
+    nothing ! $ move ! (4 ∷ 0 ∷ []) $ join ! $ move ! (4 ∷ 0 ∷ []) $ join ! $ move ! (1 ∷ 0 ∷ []) $ join ! $ move ! (2 ∷ 3 ∷ []) $ join ! $ join ! $
+    nothing ! $ move ! (1 ∷ 0 ∷ []) $ use2 𝓛 (raw (G.pre z)) (id⊢ 𝓤 _) $
+    calls_at ! (framed 𝓤 𝓛.H 𝓜 (tables 𝓤 𝓛.H 𝓜 𝓡 𝓡.env)) G (met 𝓤 𝓛 𝓜 𝓡 (code.calls-host::tree::HostTree::order 𝓡.env wired)) z
+    (and_then ! (get ! refl) (and_then ! (get ! refl) (and_then ! (get ! refl) (no_more !)))) (λ v.
+    use1 𝓛 (later (some (λ (u : ℕ). ((‵ (flft κ full_share) ⊛ (‵ (flft κs.0 qs.0) ⊛ ‵ ftrue)) ⊛ ‵ (u64.own_val u (v ∷ []))) ⊛
+    some (λ (ws : (Unit {0} × (Unit {0} × (Unit {0} × Unit {0})))). ‵ (lasts g.ended z.0.0 z.0.3 ws) ⊛ raw (fact 𝓤 (Planned x1 x2.now before u)))))) (id⊢ 𝓤 _) $
+    await ! tt $ pick ! (λ u. split ! $ split ! $ split ! $ lft_end ! tt $
+    move ! (2 ∷ []) $ peeks ! u64 (Is u64) (shows 𝓛 u64) u (v ∷ []) (λ is. lands_as ! refl refl ((uint_Lawful 𝓛 w64).typed u _ is).0 $
+    move ! (3 ∷ []) $ pick ! (λ ws. split ! $ drop ! $ heard ! _ (λ holds.
+    -- [the result; the lifetime is over; the tokens; the lender's part; the locals]
+    move ! (1 ∷ 3 ∷ []) $ lent_back ! tt $
+    returns ! (look_at ! 0 refl) $ free_all ! refl $ keep ! (1 ∷ 0 ∷ 2 ∷ []) $
+    suffices ! _ (ends_at 𝓛 f.ended stayed c (y (block_ptr b o)) v u (tt, (tt, (tt, tt))) (tt, (tt, (tt, tt)))) $
+    nothing ! $ nothing ! $ join ! $ nothing ! $ join ! $ nothing ! $ join ! $ move ! (3 ∷ 0 ∷ []) $ group ! 3 $ frame ! $ says ! holds $ done !)))))))))
