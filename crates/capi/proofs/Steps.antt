@@ -1,9 +1,9 @@
 -- The names that the walks cite.
-pub use Rattle.std.proofs.Common.{◌≡◌, ℕ, ◌≤◌, ◌<◌, List, [], ◌∷◌, ◌++◌, refl, sym, ap, ◌∙◌, w8, w16, w32, w64, MutBor, arith}
+pub use Rattle.std.proofs.Common.{◌≡◌, Bool, true, false, nat_lt, cond, subst, lit<, ℕ, ◌≤◌, ◌<◌, List, [], ◌∷◌, ◌++◌, refl, sym, ap, ◌∙◌, w8, w16, w32, w64, MutBor, arith}
 pub use Rattle.std.proofs.raw_atomic.Walks.{proved}
 pub use base.Fraction.{full_share}
-pub use base.Logic.{id⊢}
-pub use base.Fml.{Incl-refl, ftrue, fat, flft, fres, flent, fex, GName}
+pub use base.Logic.{ent, sep, id⊢}
+pub use base.Fml.{Incl-refl, feq, ftrue, fat, flft, fres, flent, fex, GName}
 pub use mir.Syntax.{ty_int, named}
 pub use mir.Val.{Val, vunit, vint, vptr}
 pub use contract.Monad.{fact}
@@ -12,9 +12,9 @@ pub use prog.Wp.{WpFn}
 pub use types.Kit.{‵, raw, ◌⊛◌, some, later, prop, at_ret, Sq, ◌$◌, ◌∵◌, !, qed, done, move, keep, drop, use1, use2, use3, split, join, fsplit, fsplit3, fjoin, fpack, feq_i, feq_l, pick, await, rewrite, regoal, suffices, frame, group}
 pub use types.SemTy.{Body}
 pub use types.Tokens.{lft_new, lft_end, lent_back}
-pub use types.Run.{enter, of_opd, lit, unit_lit, bin, addr, load, look, store, stop, no_more, and_then, returns}
+pub use types.Run.{enter, init, assigns, first, branches, skips, exec, returns_within, of_opd, lit, unit_lit, bin, addr, load, look, store, stop, no_more, and_then, returns}
 pub use types.ByLocal.{alloc_all, pass_all, free_all, look_at, get, through, sets, lands_as, env}
-pub use denote.Builtin.{SliceRefOf, u8, u16, u32, u64, bool, unit}
+pub use denote.Builtin.{usize, SliceRefOf, u8, u16, u32, u64, bool, unit}
 pub use denote.Exit.{yes}
 pub use denote.Laws.{Is, shows}
 pub use denote.Lend.{lends_ref, ref_back, lends_shr}
@@ -32,3 +32,4 @@ pub use denote.Triple.Walked.{Stays, walk_of, says, stay_dropped, Goes-dropped, 
 pub use denote.Triple.Table.{framed}
 pub use denote.RattleType.{owns}
 pub use denote.Slice.{ShrSlice, shr_slice_vals, shr_slice_Tells}
+pub use borrow.Table.OneValue.{part_in}
