@@ -32,6 +32,7 @@ abbrev pub said_last : List ℕ → Option (Option Command)
 said_last [] = None
 said_last (b ∷ bs) = Some (command_of (b ∷ bs))
 
+-- what is said, if anything, and then the rest
 abbrev pub followed : {X : Type 0} → Option X → List X → List X
 followed None xs = xs
 followed (Some x) xs = x ∷ xs

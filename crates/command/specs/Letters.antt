@@ -23,6 +23,7 @@ letters_from weight n (b ∷ bs) = option_and_then (λ d. letters_from (weight /
 abbrev pub route_of : List ℕ → Option ℕ
 route_of field = cond (within 1 route_width (length field)) (letters_from (2 ^ (route_width - 1)) 0 field) None
 
+-- a bit as a number
 abbrev pub bit_number : Bool → ℕ
 bit_number false = 0
 bit_number true = 1

@@ -27,11 +27,11 @@ abbrev pub words_of : List (List ℕ) → Option (List ℕ)
 words_of [] = Some []
 words_of (f ∷ fs) = option_and_then (λ w. option_map (λ ws. w ∷ ws) (words_of fs)) (free_word_of f)
 
--- L
+-- what follows `tree`: L
 abbrev pub tree_of : List (List ℕ) → Option Command
 tree_of fs = then_of decimal_of fs (λ levels. ended (Tree levels))
 
--- A B J K V
+-- what follows `rule`: A B J K V
 abbrev pub rule_of : List (List ℕ) → Option Command
 rule_of fs =
     then_of decimal_of fs (λ a fs.
@@ -45,7 +45,7 @@ rule_of fs =
 abbrev pub packed : List ℕ → ArrayVec ℕ
 packed ws = record { items = ws }
 
--- C M R K W ..
+-- what follows `send`: C M R K W ..
 abbrev pub send_of : List (List ℕ) → Option Command
 send_of fs =
     then_of decimal_of fs (λ card fs.
@@ -54,7 +54,7 @@ send_of fs =
     then_of hex_byte_of fs (λ key fs.
     option_map (λ ws. Send card (packed (packet_of mode route key ws))) (words_of fs)))))
 
--- C S I
+-- what follows `fire`: C S I
 abbrev pub fire_of : List (List ℕ) → Option Command
 fire_of fs =
     then_of decimal_of fs (λ card fs.
@@ -62,11 +62,11 @@ fire_of fs =
     then_of input_named fs (λ input.
     ended (Fire card station input))))
 
--- C
+-- what follows `take`: C
 abbrev pub take_of : List (List ℕ) → Option Command
 take_of fs = then_of decimal_of fs (λ card. ended (Take card))
 
--- what follows the first word
+-- the command, by its first word and what follows it
 abbrev pub said_after : Verb → List (List ℕ) → Option Command
 said_after verbs.Tree fs = tree_of fs
 said_after verbs.Rule fs = rule_of fs

@@ -32,9 +32,10 @@ input_named f =
 abbrev pub class_of : List ℕ → Option (Option ℕ)
 class_of f = cond (bytes_eq f (codes "n")) (Some None) (option_map Some (decimal_of f))
 
--- a word's 30 free bits: one to eight hexadecimal digits, and at most 3fffffff
+-- a number of 30 bits, the free bits of a word
 abbrev pub free_bits : ℕ → Option ℕ
 free_bits n = cond (nat_le n 0x3fffffff) (Some n) None
 
+-- one to eight hexadecimal digits, at most 3fffffff
 abbrev pub free_word_of : List ℕ → Option ℕ
 free_word_of f = option_and_then free_bits (hex_word_of f)

@@ -15,6 +15,7 @@ use Rattle.command.specs.Letters.{SaysRoute}
 use Rattle.command.specs.Packets.{packet_of}
 use Rattle.command.specs.Sizes.{longest_line}
 
+-- how a mode, a station and an input are written
 abbrev pub mode_letter : Mode → List ℕ
 mode_letter Target = codes "T"
 mode_letter Flood = codes "F"
