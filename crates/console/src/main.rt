@@ -1,47 +1,44 @@
 // The console of the tree: each line of standard input is answered by one line.
 #![tactic(auto)]
 
-use command::{Command, LineBuffer};
-use session::{Console, Reply};
+use session::{Answer, Conversation, LineFault, Reply};
 use std::io;
 use std::io::{BufRead, BufReader, BufWriter, IsTerminal, Write};
 
-const HELP: &str = "tree LEVELS, then rule LINES, then go; after it send, fire, take and owed";
+const HELP: &str =
+    "tree LEVELS; then rule LOW HIGH LOW HIGH CLASS, or none; then go; then send, fire, take, owed";
 
-// A session with a host or a person: where the answers go, and what a person is told beside them.
+// The lines of a host or a person: where the answers go, and where the words for a person, if one types.
 #[derive(Drop)]
-struct Session<O, E> {
-    console: Console,
-    line: LineBuffer,
+struct Desk<O, E> {
+    conversation: Conversation,
     out: O,
-    // The words for a person, where one types.
     aside: Option<E>,
 }
 
-impl<O: Write, E: Write> Session<O, E> {
-    // Takes the bytes that came, and answers each line that they end.
+impl<O: Write, E: Write> Desk<O, E> {
+    // Takes the bytes that came, and writes the answer of each line that they end.
     fn feed(&mut self, bytes: &[u8]) -> io::Result<()> {
         for byte in bytes {
-            if let Some(said) = self.line.feed(*byte) {
-                self.answer(&said)?;
+            if let Some(answer) = self.conversation.feed(*byte) {
+                self.write(answer)?;
             }
         }
         self.out.flush()
     }
 
-    // Answers a last line without a newline.
+    // Ends the input: a last line may lack its newline.
     fn end(&mut self) -> io::Result<()> {
-        if let Some(said) = self.line.last() {
-            self.answer(&said)?;
+        if let Some(answer) = self.conversation.end() {
+            self.write(answer)?;
         }
         self.out.flush()
     }
 
-    // Answers a line, by what it says.
-    fn answer(&mut self, said: &Option<Command>) -> io::Result<()> {
-        let reply = self.console.hear(said);
-        writeln!(self.out, "{}", Reply(reply))?;
-        if let (Some(aside), Err(fault)) = (&mut self.aside, reply) {
+    // Writes one line, and for a person what is wrong.
+    fn write(&mut self, answer: Result<Answer, LineFault>) -> io::Result<()> {
+        writeln!(self.out, "{}", Reply(answer))?;
+        if let (Some(aside), Err(fault)) = (&mut self.aside, answer) {
             self.out.flush()?;
             writeln!(aside, "{fault}")?;
         }
@@ -58,9 +55,8 @@ fn main(rt: HostRuntime) -> io::Result<()> {
         writeln!(stderr, "{HELP}")?;
         aside = Some(stderr);
     }
-    let mut session = Session {
-        console: Console::new(),
-        line: LineBuffer::new(),
+    let mut desk = Desk {
+        conversation: Conversation::new(),
         out: BufWriter::new(heap, rt.stdout())?,
         aside,
     };
@@ -72,8 +68,8 @@ fn main(rt: HostRuntime) -> io::Result<()> {
         if count == 0 {
             break;
         }
-        session.feed(bytes)?;
+        desk.feed(bytes)?;
         input.consume(count);
     }
-    session.end()
+    desk.end()
 }

@@ -1,3 +1,4 @@
+mod Halfway
 mod Meant
 mod Padded
 mod SoFar

@@ -27,7 +27,7 @@ came calls waiting e = e
 came calls (ruling s rules) e = e
 came calls (running m) stands = stands.led
 
-one_more : (session : List (Option Command)) (k : Option Command) (d d' : Desk) → SoFar session d → d' ≡ (heard d k).next → KeepsOn k d d' →
+pub one_more : (session : List (Option Command)) (k : Option Command) (d d' : Desk) → SoFar session d → d' ≡ (heard d k).next → KeepsOn k d d' →
     SoFar (session ++ (k ∷ [])) d'
 one_more session k d d' far e keeps = record {
   next = e ∙ (ap (λ x. (heard x k).next) far.next ∙ sym (after_one waiting session k));

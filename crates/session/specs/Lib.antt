@@ -6,3 +6,4 @@ pub mod Ruled
 pub mod Desks
 pub mod Consoles
 pub mod Sessions
+pub mod Conversations

@@ -4,6 +4,7 @@
 mod answer;
 mod calling;
 mod console;
+mod conversation;
 mod fault;
 mod rulebook;
 mod ruling;
@@ -11,6 +12,7 @@ mod sessions;
 
 pub use answer::{Answer, Reply};
 pub use console::Console;
+pub use conversation::{Conversation, converse};
 pub use fault::LineFault;
 pub use rulebook::Rulebook;
 pub use sessions::{refused_lines_change_nothing, replay};

@@ -1,0 +1,65 @@
+// The console and its lines: an input is fed byte by byte, and each line is answered as it ends.
+ghost use Rattle.std.specs.Prelude.{◌≡◌, ℕ, List};
+ghost use Rattle.command.specs.Inputs.{said_at, said_last, kept_after, all_said};
+ghost use Rattle.session.specs.Desks.{waiting};
+ghost use Rattle.session.specs.Sessions.{StandsBy, after, calls_made};
+ghost use Rattle.session.specs.Conversations.{replied, desk_after, KeepsOnIf, desk_in, said_in};
+
+use crate::answer::Answer;
+use crate::console::Console;
+use crate::fault::LineFault;
+use command::LineBuffer;
+
+// The console, and what is read of the next line.
+#[derive(Drop)]
+pub struct Conversation {
+    console: Console,
+    line: LineBuffer,
+}
+
+impl Conversation {
+    // Nothing is read, and the console waits for a tree.
+    pub fn new() -> Conversation
+        ensures desk { desk_in result ≡ waiting }
+        ensures lines { (input : List ℕ) → all_said result.line input ≡ said_in input }
+    {
+        Conversation {
+            console: Console::new(),
+            line: LineBuffer::new(),
+        }
+    }
+
+    // Takes the next byte. A newline ends a line, which is answered.
+    pub fn feed(&mut self, byte: u8) -> Option<Result<Answer, LineFault>>
+        ensures answer { result ≡ replied (desk_in self.old) (said_at self.old.line byte) }
+        ensures next { desk_in self.new ≡ desk_after (desk_in self.old) (said_at self.old.line byte) }
+        ensures line { self.new.line ≡ kept_after self.old.line byte }
+        ensures laws { KeepsOnIf (said_at self.old.line byte) (desk_in self.old) (desk_in self.new) }
+    {
+        let said = self.line.feed(byte)?;
+        Some(self.console.hear(&said))
+    }
+
+    // Ends the input. A last line without a newline is answered.
+    pub fn end(&mut self) -> Option<Result<Answer, LineFault>>
+        ensures answer { result ≡ replied (desk_in self.old) (said_last self.old.line) }
+        ensures next { desk_in self.new ≡ desk_after (desk_in self.old) (said_last self.old.line) }
+        ensures laws { KeepsOnIf (said_last self.old.line) (desk_in self.old) (desk_in self.new) }
+    {
+        let said = self.line.last()?;
+        Some(self.console.hear(&said))
+    }
+}
+
+// The conversation of a whole input.
+pub fn converse(input: &[u8]) -> Conversation
+    ensures next { desk_in result ≡ after waiting (said_in input.now) }
+    ensures laws { StandsBy (calls_made waiting (said_in input.now)) (desk_in result) }
+{
+    let mut conversation = Conversation::new();
+    for byte in input {
+        let _ = conversation.feed(*byte);
+    }
+    let _ = conversation.end();
+    conversation
+}
