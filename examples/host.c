@@ -61,6 +61,8 @@ int main(void)
     refused("fire 1, station 2", zel_fire(tree, 1, 2, ZEL_QUEUE), ZEL_NO_STATION);
     refused("fire 1, input 5", zel_fire(tree, 1, ZEL_UP, 5), ZEL_NO_INPUT);
     refused("fire 1 up turn", zel_fire(tree, 1, ZEL_UP, ZEL_TURN), 13);
+    refused("take, no tree", zel_take(NULL, 1), ZEL_NO_TREE);
+    refused("owed, no tree", zel_owed(NULL), ZEL_NO_TREE);
     refused("take 1", zel_take(tree, 1), 18);
     refused("order 1 to none", zel_order(tree, 1, both, 0), 19);
     granted("owed", zel_owed(tree), 2);

@@ -33,7 +33,7 @@ enum { ZEL_LEFT = 0, ZEL_RIGHT = 1, ZEL_QUEUE = 2, ZEL_PARENT = 3, ZEL_TURN = 4 
 typedef uint64_t zel_answer;
 
 /* The refusals from 1 to 20 stand in docs/refusals.md. These are for mistakes that only a caller by numbers can make. */
-enum { ZEL_NO_STATION = 101, ZEL_NO_INPUT = 102, ZEL_NO_ROOM = 103 };
+enum { ZEL_NO_STATION = 101, ZEL_NO_INPUT = 102, ZEL_NO_ROOM = 103, ZEL_NO_TREE = 104 };
 
 static inline unsigned zel_refusal(zel_answer answer) { return (unsigned)(answer >> 32) & 255; }
 static inline int zel_has_place(zel_answer answer) { return (int)(answer >> 40) & 1; }
@@ -43,7 +43,8 @@ static inline uint32_t zel_value(zel_answer answer) { return (uint32_t)answer; }
 size_t zel_bytes(void);
 
 /* Makes a tree of one card and no rules in this room of so many bytes. Refused by ZEL_NO_ROOM if they are fewer than zel_bytes(); then nothing
-   is written. Every other call wants a tree that this call has made. */
+   is written. Every other call
+   wants a tree that this call has made, and is refused by ZEL_NO_TREE if the pointer to it is null. */
 zel_answer zel_begin(void *room, size_t bytes);
 
 /* A new full tree of 1 to 5 levels, or the tree that a table lists, with rules: two entries for each card in turn, its left and its right

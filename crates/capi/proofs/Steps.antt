@@ -33,3 +33,12 @@ pub use denote.Triple.Table.{framed}
 pub use denote.RattleType.{owns}
 pub use denote.Slice.{ShrSlice, shr_slice_vals, shr_slice_Tells}
 pub use borrow.Table.OneValue.{part_in}
+pub use base.Logic.{via, guard_i}
+pub use mir.Val.{Fits}
+pub use types.Logic.{sem}
+pub use denote.RawPtr.{null_ptr, Testable, tests_null}
+
+-- what holds at null and at each place in a block holds at a pointer
+pub at_each : (P : Ptr → Type 1) (p : Ptr) → P null_ptr → ((b o : ℕ) → P (block_ptr b o)) → P p
+at_each P (block_ptr b o) null block = block b o
+at_each P null_ptr null block = null

@@ -1,7 +1,7 @@
 -- A tree in the memory of a host.
 use Rattle.std.specs.Prelude.{◌≡◌, ℕ, cond, nat_lt}
 use Rattle.std.specs.Mem.{type_size}
-use Rattle.std.specs.Ptr.{Ptr, lies_at, room_at}
+use Rattle.std.specs.Ptr.{Ptr, block_ptr, null_ptr, lies_at, room_at, if_non_null}
 use Rattle.std.specs.Borrow.{full_share}
 use base.Fml.{Fml, ftrue, feq, fex}
 use Rattle.host.specs.declared.tree.HostTree.{HostTree}
@@ -32,3 +32,21 @@ no_room = numbered 103
 -- what it answers and leaves: nothing but that the room is too small, or the tree of one card and no rules
 abbrev pub begun : ℕ → Ptr → ℕ → Fml
 begun bytes p answer = cond (nat_lt bytes tree_bytes) (feq ℕ answer no_room) (tree_after p (λ tree. (answer ≡ 0) × Single tree))
+
+-- what a call is given: a tree at the pointer, or the pointer is null
+abbrev pub given_tree : Ptr → HostTree → Fml
+given_tree p tree = if_non_null p (tree_at p tree)
+
+-- the pointer is null
+abbrev pub no_tree : ℕ
+no_tree = numbered 104
+
+-- what a call answers and leaves: at null nothing but that the pointer is null, and else a tree of which this holds
+abbrev pub answered : Ptr → ℕ → (HostTree → Type 0) → Fml
+answered (block_ptr b o) answer holds = tree_after (block_ptr b o) holds
+answered null_ptr answer holds = feq ℕ answer no_tree
+
+-- the same of a call that leaves the tree as it was
+abbrev pub told_at : Ptr → ℕ → Type 0 → Type 0
+told_at (block_ptr b o) answer holds = holds
+told_at null_ptr answer holds = answer ≡ no_tree

@@ -5,3 +5,6 @@ mod begin;
 mod calls;
 mod reads;
 mod set_up;
+
+// The pointer to the tree is null.
+pub(crate) const NO_TREE: u64 = 104 << 32;

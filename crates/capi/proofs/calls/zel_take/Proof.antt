@@ -1,9 +1,9 @@
--- The tree is lent to the call, and lies there again as the call leaves it.
-use Rattle.capi.proofs.Steps.{ℕ, [], ◌∷◌, ◌++◌, refl, w16, w64, proved, full_share, id⊢, ftrue, flft, flent, GName, named, vptr, fact, tables, WpFn, owns, ‵, raw, ◌⊛◌, some, later, prop, ◌$◌, ◌∵◌, !, qed, done, move, keep, use1, use2, use3, split, join, fsplit, fpack, pick, await, regoal, suffices, group, Body, lft_new, lft_end, enter, of_opd, addr, stop, no_more, and_then, returns, alloc_all, pass_all, free_all, look_at, get, through, sets, lands_as, u16, u64, yes, Is, shows, lends_ref, ref_back, mem, part_at, uint_vals, uint_Tells, uint_Lawful, Ptr, RawPtr, block_ptr, in_a_block, rawptr_vals, rawptr_Tells, MutRef, plain, nothing, heard, peeks, calls_at, lasts, triple_of, Stays, walk_of, stay_dropped, Goes-dropped, ends_at, framed}
+-- The tree is lent to the call, and lies there again as the call leaves it. At null nothing is called.
+use Rattle.capi.proofs.Steps.{ℕ, [], ◌∷◌, ◌++◌, refl, lit<, w16, w64, proved, full_share, id⊢, via, guard_i, Fits, ftrue, flft, flent, named, vint, vptr, fact, tables, WpFn, owns, GName, lends_ref, ref_back, mem, MutRef, Body, use3, fpack, ‵, raw, ◌⊛◌, some, later, at_ret, ◌$◌, ◌∵◌, !, qed, done, move, keep, use1, use2, split, join, fsplit, pick, await, suffices, group, feq_i, lft_new, lft_end, enter, of_opd, lit, bin, first, branches, skips, exec, returns_within, addr, stop, no_more, and_then, returns, alloc_all, pass_all, free_all, look_at, get, through, sets, lands_as, env, u16, u64, yes, Is, shows, part_at, uint_Makes, uint_vals, uint_Tells, uint_Lawful, Ptr, RawPtr, block_ptr, null_ptr, Testable, tests_null, rawptr_vals, rawptr_Tells, plain, nothing, owned, heard, peeks, calls_at, lasts, on_entry, triple_of, Stays, walk_of, stay_dropped, Goes-dropped, ends_at, framed, ent, sep, sem, at_each}
 use Rattle.host.specs.declared.tree.HostTree.{HostTree}
 use Rattle.host.specs.contracts.tree.HostTree.{the_row as R}
 use Rattle.host.specs.Calls.{Taken}
-use Rattle.capi.specs.Memory.{tree_at}
+use Rattle.capi.specs.Memory.{tree_at, given_tree, no_tree}
 use Rattle.capi.specs.contracts.calls.zel_take as f
 use Rattle.capi.proofs.calls.zel_take.Statement.{statement}
 use Rattle.capi.proofs.calls.zel_take.Code as code
@@ -21,12 +21,25 @@ zel_take_spec 𝓤 𝓛 𝓜 𝓡 wired =
     (λ κs. (rawptr_vals, (uint_vals w16, tt))) (λ κs. (rawptr_Tells, (uint_Tells w16, tt))) (λ κs qs bounds a before are.
     let x1 = a.1.0 in
     let y : Ptr → W.Ghost = λ p. ((κs, qs, bounds, (p, (x1, tt)), (rawptr_vals p, (uint_vals w16 x1, tt))), before) in
-    qed 𝓛 ((‵ ftrue ⊛ ‵ (owns (RawPtr ∷ u16 ∷ []) a (y a.0).0.4)) ∷ ‵ (tree_at a.0 before) ∷ []) ∵
-    split ! $ move ! (1 ∷ []) $ fsplit ! $ move ! (1 ∷ []) $ fsplit ! $ keep ! (4 ∷ 0 ∷ 3 ∷ []) $
+    at_each (λ p. ent 𝓤 (sep 𝓤 (on_entry 𝓛 f.signature κs qs (p, (x1, tt)) (y p).0.4) (sep 𝓤 (fact 𝓤 (Testable p)) (sem 𝓛 (given_tree p before))))
+    (WpFn 𝓤 𝓛.H 𝓣.C 𝓣.Λ code.function (rawptr_vals p ++ (uint_vals w16 x1 ++ [])) (W.post (y p)))) a.0
+    (qed 𝓛 ((‵ ftrue ⊛ ‵ (owns (RawPtr ∷ u16 ∷ []) (null_ptr, (x1, tt)) (y null_ptr).0.4)) ∷ (raw (fact 𝓤 (Testable null_ptr)) ⊛ ‵ ftrue) ∷ []) ∵
+    split ! $ move ! (2 ∷ []) $ split ! $ heard ! _ (λ may. keep ! (1 ∷ []) $
+    enter ! _ _ _ _ _ $ alloc_all ! (λ l. pass_all ! refl ((tt, record { fits = lit< tt }), ((tt, record { fits = are.1.0.1 }), tt)) $
+    sets ! (bin ! (get ! refl) (lit ! tt) (tests_null null_ptr may)) refl (tt, tt) $ first ! $ branches ! (get ! refl)
+    (λ _. sets ! (of_opd ! (record { go = λ Kt h. via 𝓤 (Kt (vint w64 no_tree)) h (guard_i 𝓤 (Fits w64 no_tree) (Kt (vint w64 no_tree)) (record { fits = lit< tt })) })) refl (tt, record { fits = lit< tt }) $
+    returns_within ! (W.post (y null_ptr)) refl (look_at ! 0 refl) $ free_all ! refl $
+    suffices ! _ (ends_at 𝓛 f.ended stayed c (y null_ptr) (vint w64 no_tree) no_tree (tt, (tt, tt)) (tt, (tt, tt))) $
+    feq_i ! ℕ no_tree no_tree refl $ owned ! u64 _ (uint_Makes 𝓛 w64) no_tree _ (refl, lit< tt) $
+    nothing ! $ nothing ! $ join ! $ nothing ! $ join ! $ move ! (3 ∷ 0 ∷ []) $ group ! 3 $ done !)
+    (λ never. absurd never))))
+    (λ b o.
+    qed 𝓛 ((‵ ftrue ⊛ ‵ (owns (RawPtr ∷ u16 ∷ []) ((block_ptr b o), (x1, tt)) (y (block_ptr b o)).0.4)) ∷ (raw (fact 𝓤 (Testable (block_ptr b o))) ⊛ ‵ (tree_at (block_ptr b o) before)) ∷ []) ∵
+    split ! $ move ! (2 ∷ []) $ split ! $ heard ! _ (λ may. move ! (2 ∷ []) $ fsplit ! $ move ! (1 ∷ []) $ fsplit ! $ keep ! (3 ∷ 0 ∷ 4 ∷ []) $
     -- [the tree; the arguments, the last one first; the tokens]
-    in_a_block ! a.0 (λ p. tree_at p before) (id⊢ 𝓤 _) (λ b o e.
-    regoal ! (λ p. prop (WpFn 𝓤 𝓛.H 𝓣.C 𝓣.Λ code.function (rawptr_vals p ++ (uint_vals w16 x1 ++ [])) (W.post (y p)))) e refl $
     enter ! _ _ _ _ _ $ alloc_all ! (λ l. pass_all ! refl ((tt, tt), ((tt, record { fits = are.1.0.1 }), tt)) $
+    sets ! (bin ! (get ! refl) (lit ! tt) (tests_null (block_ptr b o) may)) refl (tt, tt) $ first ! $ branches ! (get ! refl) (λ never. absurd never)
+    (λ _. skips ! $ exec ! 𝓣.C 𝓣.Λ (env code.Mir.locals l) code.Mir.t-3 (at_ret _ (W.post (y (block_ptr b o)))) $
     sets ! (of_opd ! (get ! refl)) refl (tt, tt) $ sets ! (addr ! (through ! refl (stop !))) refl (tt, tt) $
     lft_new ! tt (λ α. let κ = α ∷ [] in move ! (1 ∷ []) $
     use1 𝓛 (later (some (λ (δ : GName). ‵ ((MutRef (named 0) κ R).own_val (record { ref_ptr = (b, o); ghost_name = δ; now = before }) (vptr b o ∷ [])) ⊛ ‵ (flent κ (Body (mem R) b o δ))))) (lends_ref 𝓛 R (named 0) κ before b o) $
@@ -48,4 +61,4 @@ zel_take_spec 𝓤 𝓛 𝓜 𝓡 wired =
     fpack ! ((tree : HostTree) × Taken x1 before u tree) (λ found. tree_at (block_ptr b o) found.0) (ws.0, holds) $
     returns ! (look_at ! 0 refl) $ free_all ! refl $ keep ! (3 ∷ 0 ∷ 4 ∷ []) $
     suffices ! _ (ends_at 𝓛 f.ended stayed c (y (block_ptr b o)) v u (tt, (tt, tt)) (tt, (tt, tt))) $
-    nothing ! $ nothing ! $ join ! $ nothing ! $ join ! $ move ! (3 ∷ 0 ∷ []) $ group ! 3 $ done !))))))))))
+    nothing ! $ nothing ! $ join ! $ nothing ! $ join ! $ move ! (3 ∷ 0 ∷ []) $ group ! 3 $ done !))))))))))))

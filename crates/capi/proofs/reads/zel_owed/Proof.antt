@@ -1,9 +1,9 @@
--- The tree is lent to the call to read, and lies there again as it was.
-use Rattle.capi.proofs.Steps.{ℕ, [], ◌∷◌, ◌++◌, refl, w64, proved, full_share, id⊢, ftrue, flft, flent, named, vptr, fact, tables, WpFn, owns, ‵, raw, ◌⊛◌, some, later, prop, ◌$◌, ◌∵◌, !, qed, done, move, keep, drop, use1, use2, split, join, fsplit, pick, await, regoal, suffices, frame, group, lft_new, lft_end, lent_back, enter, of_opd, addr, stop, no_more, and_then, returns, alloc_all, pass_all, free_all, look_at, get, through, sets, lands_as, u64, yes, Is, shows, Incl-refl, lends_shr, part_at, uint_Lawful, Ptr, RawPtr, block_ptr, in_a_block, rawptr_vals, rawptr_Tells, ShrRef, plain, nothing, says, heard, peeks, calls_at, lasts, triple_of, Stays, walk_of, stay_dropped, Goes-dropped, ends_at, framed}
+-- The tree is lent to the call to read, and lies there again as it was. At null nothing is called.
+use Rattle.capi.proofs.Steps.{ℕ, [], ◌∷◌, ◌++◌, refl, lit<, w64, proved, full_share, id⊢, via, guard_i, Fits, ftrue, flft, flent, named, vint, vptr, fact, tables, WpFn, owns, says, Incl-refl, lends_shr, lent_back, ShrRef, frame, ‵, raw, ◌⊛◌, some, later, at_ret, ◌$◌, ◌∵◌, !, qed, done, move, keep, drop, use1, use2, split, join, fsplit, pick, await, suffices, group, lft_new, lft_end, enter, of_opd, lit, bin, first, branches, skips, exec, returns_within, addr, stop, no_more, and_then, returns, alloc_all, pass_all, free_all, look_at, get, through, sets, lands_as, env, u64, yes, Is, shows, part_at, uint_Makes, uint_Lawful, Ptr, RawPtr, block_ptr, null_ptr, Testable, tests_null, rawptr_vals, rawptr_Tells, plain, nothing, owned, heard, peeks, calls_at, lasts, on_entry, triple_of, Stays, walk_of, stay_dropped, Goes-dropped, ends_at, framed, ent, sep, sem, at_each}
 use Rattle.host.specs.contracts.tree.HostTree.{the_row as R}
 use Rattle.host.proofs.tree.HostTree.TheLaws.{the_within, the_row_laws}
 use Rattle.host.specs.Calls.{Owes}
-use Rattle.capi.specs.Memory.{tree_at}
+use Rattle.capi.specs.Memory.{tree_at, given_tree, no_tree}
 use Rattle.capi.specs.contracts.reads.zel_owed as f
 use Rattle.capi.proofs.reads.zel_owed.Statement.{statement}
 use Rattle.capi.proofs.reads.zel_owed.Code as code
@@ -20,12 +20,25 @@ zel_owed_spec 𝓤 𝓛 𝓜 𝓡 wired =
     f.Key.name code.function (code.unfolded 𝓤 𝓛.H 𝓜 𝓡 wired)
     (λ κs. (rawptr_vals, tt)) (λ κs. (rawptr_Tells, tt)) (λ κs qs bounds a before are.
     let y : Ptr → W.Ghost = λ p. ((κs, qs, bounds, (p, tt), (rawptr_vals p, tt)), before) in
-    qed 𝓛 ((‵ ftrue ⊛ ‵ (owns (RawPtr ∷ []) a (y a.0).0.4)) ∷ ‵ (tree_at a.0 before) ∷ []) ∵
-    split ! $ move ! (1 ∷ []) $ fsplit ! $ keep ! (3 ∷ 2 ∷ []) $
+    at_each (λ p. ent 𝓤 (sep 𝓤 (on_entry 𝓛 f.signature κs qs (p, tt) (y p).0.4) (sep 𝓤 (fact 𝓤 (Testable p)) (sem 𝓛 (given_tree p before))))
+    (WpFn 𝓤 𝓛.H 𝓣.C 𝓣.Λ code.function (rawptr_vals p ++ []) (W.post (y p)))) a.0
+    (qed 𝓛 ((‵ ftrue ⊛ ‵ (owns (RawPtr ∷ []) (null_ptr, tt) (y null_ptr).0.4)) ∷ (raw (fact 𝓤 (Testable null_ptr)) ⊛ ‵ ftrue) ∷ []) ∵
+    split ! $ move ! (2 ∷ []) $ split ! $ heard ! _ (λ may. keep ! (1 ∷ []) $
+    enter ! _ _ _ _ _ $ alloc_all ! (λ l. pass_all ! refl ((tt, record { fits = lit< tt }), tt) $
+    sets ! (bin ! (get ! refl) (lit ! tt) (tests_null null_ptr may)) refl (tt, tt) $ first ! $ branches ! (get ! refl)
+    (λ _. sets ! (of_opd ! (record { go = λ Kt h. via 𝓤 (Kt (vint w64 no_tree)) h (guard_i 𝓤 (Fits w64 no_tree) (Kt (vint w64 no_tree)) (record { fits = lit< tt })) })) refl (tt, record { fits = lit< tt }) $
+    returns_within ! (W.post (y null_ptr)) refl (look_at ! 0 refl) $ free_all ! refl $
+    suffices ! _ (ends_at 𝓛 f.ended stayed c (y null_ptr) (vint w64 no_tree) no_tree (tt, tt) (tt, tt)) $
+    nothing ! $ owned ! u64 _ (uint_Makes 𝓛 w64) no_tree _ (refl, lit< tt) $
+    nothing ! $ nothing ! $ join ! $ move ! (3 ∷ 0 ∷ []) $ group ! 3 $ frame ! $ says ! refl $ done !)
+    (λ never. absurd never))))
+    (λ b o.
+    qed 𝓛 ((‵ ftrue ⊛ ‵ (owns (RawPtr ∷ []) ((block_ptr b o), tt) (y (block_ptr b o)).0.4)) ∷ (raw (fact 𝓤 (Testable (block_ptr b o))) ⊛ ‵ (tree_at (block_ptr b o) before)) ∷ []) ∵
+    split ! $ move ! (2 ∷ []) $ split ! $ heard ! _ (λ may. move ! (2 ∷ []) $ fsplit ! $ keep ! (2 ∷ 3 ∷ []) $
     -- [the tree; the arguments, the last one first; the tokens]
-    in_a_block ! a.0 (λ p. tree_at p before) (id⊢ 𝓤 _) (λ b o e.
-    regoal ! (λ p. prop (WpFn 𝓤 𝓛.H 𝓣.C 𝓣.Λ code.function (rawptr_vals p ++ []) (W.post (y p)))) e refl $
     enter ! _ _ _ _ _ $ alloc_all ! (λ l. pass_all ! refl ((tt, tt), tt) $
+    sets ! (bin ! (get ! refl) (lit ! tt) (tests_null (block_ptr b o) may)) refl (tt, tt) $ first ! $ branches ! (get ! refl) (λ never. absurd never)
+    (λ _. skips ! $ exec ! 𝓣.C 𝓣.Λ (env code.Mir.locals l) code.Mir.t-3 (at_ret _ (W.post (y (block_ptr b o)))) $
     sets ! (of_opd ! (get ! refl)) refl (tt, tt) $ sets ! (addr ! (through ! refl (stop !))) refl (tt, tt) $
     lft_new ! tt (λ α. let κ = α ∷ [] in move ! (1 ∷ 0 ∷ []) $
     use2 𝓛 (later ((‵ ((ShrRef (named 0) κ R).own_val (record { ref_ptr = (b, o); now = before }) (vptr b o ∷ [])) ⊛ ‵ (flent κ (part_at R full_share before b o))) ⊛ ‵ (flft κ full_share)))
@@ -47,4 +60,4 @@ zel_owed_spec 𝓤 𝓛 𝓜 𝓡 wired =
     move ! (1 ∷ 3 ∷ []) $ lent_back ! tt $
     returns ! (look_at ! 0 refl) $ free_all ! refl $ keep ! (1 ∷ 0 ∷ 2 ∷ []) $
     suffices ! _ (ends_at 𝓛 f.ended stayed c (y (block_ptr b o)) v u (tt, tt) (tt, tt)) $
-    nothing ! $ nothing ! $ join ! $ move ! (3 ∷ 0 ∷ []) $ group ! 3 $ frame ! $ says ! holds $ done !)))))))))
+    nothing ! $ nothing ! $ join ! $ move ! (3 ∷ 0 ∷ []) $ group ! 3 $ frame ! $ says ! holds $ done !)))))))))))
