@@ -35,11 +35,12 @@ int main(void)
     const uint8_t broken[] = {1, 1, 255, 255, 255, 255};
 
     zel_tree *tree = malloc(zel_bytes());
-    if (tree == NULL)
-        return 2;
 
     refused("begin, too small", zel_begin(tree, zel_bytes() - 1), ZEL_NO_ROOM);
+    refused("begin, no room", zel_begin(NULL, zel_bytes()), ZEL_NO_TREE);
     granted("begin", zel_begin(tree, zel_bytes()), 0);
+    if (wrong != 0)
+        return 1;
     refused("full 0", zel_full(tree, 0, rules, 1), 1);
     granted("full 2", zel_full(tree, 2, rules, 1), 0);
 

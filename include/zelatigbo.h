@@ -42,9 +42,9 @@ static inline uint32_t zel_value(zel_answer answer) { return (uint32_t)answer; }
 /* How many bytes a tree takes. */
 size_t zel_bytes(void);
 
-/* Makes a tree of one card and no rules in this room of so many bytes. Refused by ZEL_NO_ROOM if they are fewer than zel_bytes(); then nothing
-   is written. Every other call
-   wants a tree that this call has made, and is refused by ZEL_NO_TREE if the pointer to it is null. */
+/* Makes a tree of one card and no rules in this room of so many bytes. Refused by ZEL_NO_ROOM if they are fewer than zel_bytes(), and by
+   ZEL_NO_TREE if the pointer is null; then nothing is written. Every other call wants a tree that this call has made, and is refused by
+   ZEL_NO_TREE if the pointer to it is null. */
 zel_answer zel_begin(void *room, size_t bytes);
 
 /* A new full tree of 1 to 5 levels, or the tree that a table lists, with rules: two entries for each card in turn, its left and its right
