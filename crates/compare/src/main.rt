@@ -10,6 +10,7 @@ mod drain;
 mod kinds;
 mod packets;
 mod play;
+mod policies;
 mod run;
 mod sim;
 mod tallies;

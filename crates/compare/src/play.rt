@@ -3,12 +3,13 @@ use crate::choices::{Mood, choose};
 use crate::dice::Dice;
 use crate::drain::drain;
 use crate::kinds::Kinds;
+use crate::policies::{pattern_rules, range_rules, withdrawn};
 use crate::run::Run;
-use crate::sim::{Family, Rule as Listed, Scope, Simulator};
+use crate::sim::{Family, Simulator};
 use crate::tallies::Tally;
 use crate::troubles::Trouble;
 use crate::worlds::{World, draw};
-use licence::{Book, KeyPattern, PatternRule, Policy, RangeRule, Rule, Span, Verdict, Withdrawal};
+use licence::{Book, Policy, Rule};
 use std::alloc::Global;
 use wiring::{FullTree, WiredTree, Wiring};
 
@@ -70,49 +71,6 @@ fn with_rules<W: Wiring + Drop>(wiring: W, patterns: bool, rest: Rest) -> Result
     }
 }
 
-// The router's range rules for those of the simulator.
-fn range_rules(heap: Global, listed: &[Listed]) -> Result<Vec<RangeRule>, Trouble> {
-    let mut rules = Vec::new(heap);
-    for rule in listed {
-        if let Scope::Range {
-            cards: (first, last),
-            keys: (low, high),
-        } = rule.scope
-        {
-            let cards = Span {
-                low: first,
-                high: last,
-            };
-            let keys = Span { low, high };
-            match RangeRule::new(cards, keys, verdict(rule.class)) {
-                Ok(rule) => rules.push(rule)?,
-                Err(_) => return Err(Trouble::Setup("a range rule is refused")),
-            }
-        }
-    }
-    Ok(rules)
-}
-
-fn pattern_rules(heap: Global, listed: &[Listed]) -> Result<Vec<PatternRule>, Trouble> {
-    let mut rules = Vec::new(heap);
-    for rule in listed {
-        if let Scope::Pattern { set, value, care } = rule.scope {
-            match PatternRule::new(set, KeyPattern { value, care }, verdict(rule.class)) {
-                Ok(rule) => rules.push(rule)?,
-                Err(_) => return Err(Trouble::Setup("a pattern rule is refused")),
-            }
-        }
-    }
-    Ok(rules)
-}
-
-fn verdict(class: Option<u8>) -> Verdict {
-    match class {
-        Some(class) => Verdict::Class(class),
-        None => Verdict::Refuse,
-    }
-}
-
 fn with_book<W: Wiring + Drop, R: Rule + Drop>(
     wiring: W,
     rules: &[R],
@@ -133,15 +91,6 @@ fn with_book<W: Wiring + Drop, R: Rule + Drop>(
             with_policy(wiring, policy, rest)
         }
     }
-}
-
-// A layer over a policy, with these keys withdrawn.
-fn withdrawn<P: Policy + Drop>(policy: P, keys: &[u8]) -> Withdrawal<P> {
-    let mut layer = Withdrawal::over(policy);
-    for key in keys {
-        layer.withdraw(*key);
-    }
-    layer
 }
 
 fn with_policy<W: Wiring + Drop, P: Policy + Drop>(

@@ -6,6 +6,7 @@ mod fires;
 mod hops;
 mod journeys;
 mod licences;
+mod passages;
 mod progress;
 mod sends;
 mod simulators;
