@@ -3,12 +3,13 @@ use crate::dice::Dice;
 use crate::sim::Family;
 use std::alloc::{AllocError, Global};
 
+// The kinds of a head and a tail, the mode of a flood, and the bits below the kind.
 const HEAD: u32 = 0x8000_0000;
 
 const TAIL: u32 = 0x4000_0000;
 
 const FLOOD: u32 = 0x2000_0000;
-// The bits below the kind.
+
 const FREE: u32 = 0x3fff_ffff;
 
 // A route that is written bit by bit, from the highest.
@@ -34,14 +35,15 @@ impl Writer {
 fn good_route(dice: &mut Dice, family: &Family, card: u16) -> u32 {
     let mut route = Writer { bits: 0, count: 0 };
     let mut at = card;
-    for _ in 0..dice.below(6) {
+    // Seven links are the most.
+    for _ in 0..dice.below(8) {
         if let Some(parent) = family.parent(at) {
             at = parent;
             route.write(1);
         }
     }
     route.write(0);
-    for _ in 0..dice.below(6) {
+    for _ in 0..dice.below(8) {
         let right = dice.one_in(2);
         let daughters = family.daughters(at);
         let daughter = if right {

@@ -138,13 +138,10 @@ impl<W: Wiring + Drop, P: Policy + Drop> Run<W, P> {
 
     fn note(&mut self, call: &Call, answer: Answer, owed: u64) {
         self.tally.call(call, answer);
-        match call {
-            Call::Send { packet, .. } => {
-                if let (Answer::Queued, Some(head)) = (answer, packet.first()) {
-                    self.tally.mode(words::floods(*head));
-                }
+        if let (Call::Send { packet, .. }, Answer::Queued) = (call, answer) {
+            if let Some(head) = packet.first() {
+                self.tally.mode(words::floods(*head));
             }
-            Call::Fire { .. } | Call::Take { .. } | Call::Owed => {}
         }
         for card in &self.model.cards {
             self.tally.sizes(card.queue.len(), card.inbox.len(), owed);
