@@ -40,10 +40,11 @@ impl Conversation {
         Some(self.console.hear(&said))
     }
 
-    // Ends the input. A last line without a newline is answered.
+    // At the end of the input: a last line without a newline is answered.
     pub fn end(&mut self) -> Option<Result<Answer, LineFault>>
         ensures answer { result ≡ replied (desk_in self.old) (said_last self.old.line) }
         ensures next { desk_in self.new ≡ desk_after (desk_in self.old) (said_last self.old.line) }
+        ensures line { self.new.line ≡ self.old.line }
         ensures laws { KeepsOnIf (said_last self.old.line) (desk_in self.old) (desk_in self.new) }
     {
         let said = self.line.last()?;
