@@ -31,6 +31,7 @@ impl Wiring for Cabinet {
         }
     }
 
+    #[inline(always)]
     fn daughter(&self, card: u16, side: Side) -> Option<u16> {
         match self {
             Cabinet::Full(tree) => tree.daughter(card, side),

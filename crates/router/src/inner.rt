@@ -1,9 +1,9 @@
 // What the calls are made of: the checks, the plan of a fire, and its writes. Card, station and input stay three arguments, as in the
 // definitions that the clauses name.
-ghost use Rattle.std.specs.Prelude.{◌≡◌};
+ghost use Rattle.std.specs.Prelude.{◌≡◌, cond, None};
 ghost use Rattle.station.specs.Plans.{down_by, judged, downward, planned};
 ghost use Rattle.network.specs.Fires.{located, hold_at, passing};
-ghost use Rattle.router.specs.Inner.{card_in, lowered};
+ghost use Rattle.router.specs.Inner.{card_in, lowered, goes_to};
 ghost use Rattle.router.specs.Kept.{SameParts};
 
 use crate::tree::Tree;
@@ -12,6 +12,20 @@ use packet::{KeyWord, Side, advance, floods, stops, top_bit};
 use refusal::FireFault;
 use station::{CardId, Channel, Here, Hold, Input, Plan, Station, up_plan};
 use wiring::Wiring;
+
+// Does a packet of this head go on to the daughter on this side? At the stop a flood goes to both.
+#[inline(always)]
+fn goes_to(head: u32, side: Side) -> bool
+    ensures { result ≡ goes_to side head }
+{
+    if stops(head) {
+        return floods(head);
+    }
+    match side {
+        Side::Left => !top_bit(head),
+        Side::Right => top_bit(head),
+    }
+}
 
 impl<W: Wiring, P: Policy> Tree<W, P> {
     // The card of this number, if the tree has it.
@@ -26,6 +40,7 @@ impl<W: Wiring, P: Policy> Tree<W, P> {
     }
 
     #[tactic(auto, using(crate::proofs::Inside::daughter_inside))]
+    #[inline(always)]
     fn daughter(&self, card: CardId, side: Side) -> Option<CardId>
         ensures { result ≡ (W.shape self.now.wiring).daughter side card }
     {
@@ -36,6 +51,7 @@ impl<W: Wiring, P: Policy> Tree<W, P> {
 
     // The channel at an input.
     #[tactic(auto, unfolding(network::specs::Nodes::input_of, network::specs::Nodes::above, network::specs::Nodes::up_link_from, network::specs::Nodes::down_link_into))]
+    #[inline(always)]
     pub(crate) fn locate(
         &self,
         card: CardId,
@@ -61,6 +77,7 @@ impl<W: Wiring, P: Policy> Tree<W, P> {
     }
 
     // What becomes here of the word after a head: at the stop of its packet the policy is asked.
+    #[inline(always)]
     fn judge(&self, card: CardId, head: u32, word: u32) -> Here
         ensures { result ≡ judged (P.verdict self.now.policy) card head word }
     {
@@ -76,29 +93,35 @@ impl<W: Wiring, P: Policy> Tree<W, P> {
         }
     }
 
+    // The daughter on this side, if a packet of this head goes on to her.
+    #[inline(always)]
+    fn toward(&self, card: CardId, head: u32, side: Side) -> Option<CardId>
+        ensures { result ≡ cond (goes_to side head) ((W.shape self.now.wiring).daughter side card) None }
+    {
+        if goes_to(head, side) {
+            self.daughter(card, side)
+        } else {
+            None
+        }
+    }
+
     // A word goes where its head goes.
+    #[inline(always)]
     fn follow(&self, card: CardId, head: u32, word: u32, here: Here) -> Plan<CardId>
         ensures { result ≡ down_by (W.shape self.now.wiring) card head word here }
     {
-        let left = || self.daughter(card, Side::Left);
-        let right = || self.daughter(card, Side::Right);
-        let (left, right) = match (stops(head), floods(head), top_bit(head)) {
-            (true, true, _) => (left(), right()),
-            (true, false, _) => (None, None),
-            (false, _, true) => (None, right()),
-            (false, _, false) => (left(), None),
-        };
         Plan {
             up: false,
             turn: false,
-            left,
-            right,
+            left: self.toward(card, head, Side::Left),
+            right: self.toward(card, head, Side::Right),
             word,
             here,
         }
     }
 
     // What the down station does with a word.
+    #[inline(always)]
     fn down_plan(&self, card: CardId, hold: Hold<Input>, word: u32) -> Plan<CardId>
         ensures { result ≡ downward (W.shape self.now.wiring) (P.verdict self.now.policy) card hold word }
     {
@@ -113,6 +136,7 @@ impl<W: Wiring, P: Policy> Tree<W, P> {
     }
 
     // Up or down.
+    #[inline(always)]
     fn plan(&self, card: CardId, station: Station, word: u32) -> Plan<CardId>
         ensures { result ≡ planned (W.shape self.now.wiring) (P.verdict self.now.policy) card station (hold_at self.now.table card station) word }
     {
@@ -124,6 +148,7 @@ impl<W: Wiring, P: Policy> Tree<W, P> {
     }
 
     // The word that waits at an input goes through its station: merge, up or down, then all outputs together or not at all.
+    #[inline(always)]
     pub(crate) fn move_word(
         &mut self,
         card: CardId,

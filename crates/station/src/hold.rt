@@ -42,6 +42,7 @@ pub enum Hold<I> {
 
 impl Hold<Input> {
     // May the word that waits at this input pass? A free station takes only a head, and a held one only later words, from its input.
+    #[inline(always)]
     pub fn admits(&self, input: Input, word: u32) -> Result<(), FireFault>
         ensures { result ≡ merge self.now input word }
     {
@@ -59,6 +60,7 @@ impl Hold<Input> {
 }
 
 // A later word at an input, while the station is held for the holder.
+#[inline(always)]
 fn later(holder: Input, input: Input, kind: Kind) -> Result<(), FireFault>
     ensures { result ≡ merge_held holder input kind }
 {
@@ -73,6 +75,7 @@ fn later(holder: Input, input: Input, kind: Kind) -> Result<(), FireFault>
 
 impl Hold<Input> {
     // The word has passed.
+    #[inline(always)]
     pub fn pass(&mut self, input: Input, word: u32, here: Here)
         ensures { self.new ≡ after self.old input word here }
     {

@@ -20,6 +20,7 @@ pub struct Plan<C> {
 
 impl<C> Plan<C> {
     // The outputs written, as a sum: a number, since it is the product's answer to the host.
+    #[inline(always)]
     pub fn sum(&self) -> u8
         ensures { result ≡ sum_of self.now }
     {
@@ -32,6 +33,7 @@ impl<C> Plan<C> {
 }
 
 // A 1 goes to the up link, which card 0 has not, and a 0 to the turn link.
+#[inline(always)]
 fn up_by(card: u16, top: bool, word: u32) -> Plan<CardId>
     ensures { result ≡ up_by card top word }
 {
@@ -46,6 +48,7 @@ fn up_by(card: u16, top: bool, word: u32) -> Plan<CardId>
 }
 
 // What the up station of a card does with a word.
+#[inline(always)]
 pub fn up_plan(card: u16, hold: Hold<Input>, word: u32) -> Plan<CardId>
     ensures { result ≡ upward card hold word }
 {

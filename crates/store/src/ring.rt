@@ -40,6 +40,7 @@ impl Ring {
         self.count
     }
 
+    #[inline(always)]
     pub(crate) fn oldest(&self) -> Option<u32>
         ensures { result ≡ oldest self.now }
     {
@@ -50,6 +51,7 @@ impl Ring {
     }
 
     // One word more, behind the others.
+    #[inline(always)]
     pub(crate) fn push(&mut self, word: u32)
         requires { length self.old < 64 }
         ensures { self.new ≡ self.old ++ word ∷ [] }
@@ -60,6 +62,7 @@ impl Ring {
     }
 
     // The oldest word leaves.
+    #[inline(always)]
     pub(crate) fn pop(&mut self) -> Option<u32>
         ensures word { result ≡ oldest self.old }
         ensures rest { self.new ≡ younger self.old }

@@ -34,6 +34,7 @@ impl Table {
         }
     }
 
+    #[inline(always)]
     fn card(&self, c: CardId) -> &Card
         ensures { result.now ≡ card_at self.now c }
     {
@@ -41,6 +42,7 @@ impl Table {
     }
 
     // The word that waits in a channel, or that nothing does.
+    #[inline(always)]
     pub fn word_at(&self, from: &Channel) -> Result<u32, FireFault>
         ensures { result ≡ waits self.now from.now }
     {
@@ -70,6 +72,7 @@ impl Table {
     }
 
     // How a station stands.
+    #[inline(always)]
     pub fn hold(&self, c: CardId, station: Station) -> Hold<Input>
         ensures { result ≡ hold_at self.now c station }
     {
@@ -80,6 +83,7 @@ impl Table {
     }
 
     // May the word that waits at this input pass?
+    #[inline(always)]
     pub fn admits(
         &self,
         c: CardId,
@@ -92,12 +96,14 @@ impl Table {
         self.hold(c, station).admits(input, word)
     }
 
+    #[inline(always)]
     fn down_taken(&self, to: Option<CardId>) -> bool
         ensures { result ≡ down_taken self.now to }
     {
         to.is_some_and(|d| self.card(d).downlink.is_some())
     }
 
+    #[inline(always)]
     fn link_taken(&self, c: CardId, plan: &Plan<CardId>) -> bool
         ensures { result ≡ link_taken self.now c plan.now }
     {
@@ -108,6 +114,7 @@ impl Table {
             || self.down_taken(plan.right)
     }
 
+    #[inline(always)]
     fn inbox_taken(&self, c: CardId, here: Here) -> bool
         ensures { result ≡ inbox_taken self.now c here }
     {
@@ -115,6 +122,7 @@ impl Table {
     }
 
     // Is there room for all outputs?
+    #[inline(always)]
     pub fn check(&self, c: CardId, plan: &Plan<CardId>) -> Result<(), FireFault>
         ensures answer { result ≡ clear self.now c plan.now }
         ensures room { result ≡ Ok tt → inbox_taken self.now c plan.now.here ≡ false }
@@ -129,6 +137,7 @@ impl Table {
     }
 
     // The word that is kept enters the inbox.
+    #[inline(always)]
     pub fn keep(&mut self, c: CardId, here: Here)
         requires { inbox_taken self.old c here ≡ false }
         ensures { self.new ≡ kept c here self.old }
@@ -140,6 +149,7 @@ impl Table {
     }
 
     // The oldest word leaves a channel.
+    #[inline(always)]
     pub fn consume(&mut self, from: Channel)
         ensures { self.new ≡ consumed from self.old }
     {
@@ -155,6 +165,7 @@ impl Table {
     }
 
     // The word is written to every link of the plan.
+    #[inline(always)]
     pub fn write(&mut self, c: CardId, plan: &Plan<CardId>)
         ensures { self.new ≡ written c plan.now self.old }
     {
@@ -169,6 +180,7 @@ impl Table {
         self.write_down(plan.right, plan.word);
     }
 
+    #[inline(always)]
     fn write_down(&mut self, to: Option<CardId>, word: u32)
         ensures { self.new ≡ to_down_link to word self.old }
     {
@@ -179,6 +191,7 @@ impl Table {
     }
 
     // The station moves in place.
+    #[inline(always)]
     pub fn pass(&mut self, c: CardId, station: Station, input: Input, word: u32, here: Here)
         ensures { self.new ≡ passed c station input word here self.old }
     {
