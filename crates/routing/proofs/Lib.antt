@@ -6,3 +6,4 @@ pub mod Ordering
 pub mod Computed
 pub mod Examples
 pub mod Unique
+mod Marks

@@ -1,6 +1,6 @@
 // The subtree of a card, and the hops of a packet over any wiring.
-ghost use Rattle.std.specs.Prelude.{◌≡◌};
-ghost use Rattle.routing.specs.Subtrees.{covers, subtree_size, reach, hops_a_word, path_hops};
+ghost use Rattle.std.specs.Prelude.{◌≡◌, ◌==◌, ◌||◌, false, get_or};
+ghost use Rattle.routing.specs.Subtrees.{of_parent, covers, subtree_size, reach, hops_a_word, path_hops};
 
 use crate::ancestors::up_from;
 use crate::walks::Walk;
@@ -16,13 +16,31 @@ pub fn stands_over<W: Wiring>(wiring: &W, top: u16, card: u16) -> bool
         .any(|above| above == top)
 }
 
-// How many cards the subtree of this card has, itself counted.
+// Whether a card is in the subtree of `top`, where of the cards with lower numbers those in it are marked.
+fn is_inside<W: Wiring>(wiring: &W, top: u16, card: u16, marks: &[bool; 31]) -> bool
+    ensures { result ≡ (top == card || of_parent (λ p. get_or marks.now p false) ((W.shape wiring.now).parent card)) }
+{
+    if top == card {
+        return true;
+    }
+    match wiring.parent(card) {
+        Some((parent, _)) => marks[usize::from(parent)],
+        None => false,
+    }
+}
+
+// How many cards the subtree of this card has, itself counted. A parent has a lower number, so it is marked before its daughters ask.
 pub fn subtree_size<W: Wiring>(wiring: &W, card: u16) -> u16
     ensures { result ≡ subtree_size (W.shape wiring.now) card }
 {
-    (0..wiring.cards())
-        .filter(|other| stands_over(wiring, card, *other))
-        .count() as u16
+    let mut marks = [false; 31];
+    let mut size = 0;
+    for other in 0..wiring.cards() {
+        let is_below = is_inside(wiring, card, other, &marks);
+        marks[usize::from(other)] = is_below;
+        size += u16::from(is_below);
+    }
+    size
 }
 
 // How many cards a packet of this mode and terminus reaches.

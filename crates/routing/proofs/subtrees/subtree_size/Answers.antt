@@ -1,26 +1,47 @@
-use borrow.Author.Tests.{tests}
-use Rattle.std.proofs.Common.{◌≡◌, ℕ, zero, suc, ◌+◌, Bool, cond, sym, refl, ap, ◌∙◌, add-one, arith, rules}
-use Rattle.std.specs.List.{count_by, range_with_len}
-use Rattle.std.proofs.lemmas.Iterator.{YieldsList-from_range}
-use Rattle.std.proofs.lemmas.Iterator.Consumers.{YieldsList-from_filter, count_from_yields_List}
-use Rattle.std.proofs.lemmas.List.{map-id}
-use Rattle.std.proofs.lemmas.List.FromFn.{sum_by-map-range_with_len_more}
-use Rattle.std.proofs.lemmas.List.Sums.{length-filter}
-use Rattle.routing.specs.Subtrees.{count_below, subtree_size, covers}
+use Rattle.std.proofs.Common.{◌≡◌, ℕ, ◌+◌, ◌<◌, false, get_or, slice_set, sym, refl, ap, ◌∙◌, arith, subst}
+use Rattle.std.proofs.lemmas.List.{length-set}
+use Rattle.routing.specs.Subtrees.{covers, count_below, subtree_size}
+use Rattle.routing.proofs.Marks.{byte_le, counts, mark, marked}
 use Rattle.routing.proofs.subtrees.subtree_size.Goals as goal
 
-counted : (n : ℕ) (f : ℕ → Bool) → count_below n f ≡ count_by f (range_with_len 0 n)
+pub loop-other-init : goal.loop-other-init
 unfolding count_below
-counted zero f = refl
-counted (suc n) f =
-    let e = simp map-id at (sum_by-map-range_with_len_more (λ x. cond (f x) 1 0) (λ x. x) 0 n n (omega arith)) in
-    ap (λ (m : ℕ). m + cond (f n) 1 0) (counted n f) ∙ (sym e ∙ ap (λ (m : ℕ). count_by f (range_with_len 0 m)) (add-one n))
+loop-other-init g c = (c.cards-other-end.ensures, omega arith, refl, refl, omega arith, λ i l. absurd (omega arith))
+
+pub overflow_add-size : goal.overflow_add-size
+overflow_add-size g c =
+    let s = g.W.Wiring.shape c.args.wiring.now in
+    let few = (g.met.W.Wiring.lawful c.args.wiring.now).few in
+    let (ends, inside, long, sized, small, right) = c.loop-other.invariant in
+    let below = c.loop-other-test.true in
+    let one = byte_le c.is_inside-is_below.result in
+    let e = c.from-size.ensures in
+    record { fits = omega arith }
+
+pub loop-other-preserved : goal.loop-other-preserved
+loop-other-preserved g c =
+    let s = g.W.Wiring.shape c.args.wiring.now in
+    let L = g.met.W.Wiring.lawful c.args.wiring.now in
+    let few = L.few in
+    let t = c.args.card in
+    let n = c.loop-other.other in
+    let x = c.is_inside-is_below.result in
+    let (ends, inside, long, sized, small, right) = c.loop-other.invariant in
+    let below = c.loop-other-test.true in
+    let one = byte_le x in
+    let size = c.from-size.ensures in
+    let is = c.is_inside-is_below.ensures ∙ mark s L t n c.loop-other.marks right in (
+      ends,
+      omega arith,
+      length-set c.loop-other.marks c.from.result x ∙ long,
+      ap (λ (k : ℕ). c.loop-other.size + k) size ∙ counts (covers s t) n c.loop-other.size x sized is,
+      omega arith,
+      subst (λ (k : ℕ). (i : ℕ) → i < n + 1 → get_or (slice_set c.loop-other.marks k x) i false ≡ covers s t i) (sym c.from.ensures) (marked s L t n c.loop-other.marks right x is (omega arith)),
+    )
 
 pub returns : goal.returns
 unfolding subtree_size
 returns g c =
-    let s = g.W.Wiring.shape c.args.wiring.now in
-    let f = covers s c.args.card in
-    let n = s.cards in
-    count_from_yields_List _ c.count.result c.count.ensures.ran (YieldsList-from_filter _ f (YieldsList-from_range 0 n n (search rules) (search rules)) c.filter.ensures.closure (λ x b q k. search (rules, tests))) ∙
-    (length-filter f (range_with_len 0 n) ∙ sym (counted n f))
+    let (ends, inside, long, sized, small, right) = c.loop-other.invariant in
+    let over = c.loop-other-test.false in
+    sized ∙ ap (λ (k : ℕ). count_below k (covers (g.W.Wiring.shape c.args.wiring.now) c.args.card)) {x = c.loop-other.other} {y = (g.W.Wiring.shape c.args.wiring.now).cards} (omega arith)
