@@ -5,7 +5,7 @@ use Rattle.licence.specs.declared.verdict.Verdict.{Verdict}
 use Rattle.licence.specs.declared.verdict.Verdict.TheVariants.{Refuse, Class}
 use Rattle.licence.specs.Ranges.{RangeMeaning, range_of}
 use Rattle.host.specs.declared.lines.RuleLine.{RuleLine}
-use Rattle.host.specs.Rulebooks.{one_more}
+use Rattle.rulebook.specs.Rulebooks.{with_rule}
 
 -- a class, or 255 for 'refuse'
 abbrev pub verdict_of : ℕ → Verdict
@@ -14,11 +14,6 @@ verdict_of class = cond (class == 255) Refuse (Class class)
 -- the rule that a line states, or why there is none
 abbrev pub rule_of_line : RuleLine → Result RangeMeaning LicenceFault
 rule_of_line l = range_of (record { low = l.low_card; high = l.high_card }) (record { low = l.low_key; high = l.high_key }) (verdict_of l.class)
-
--- the rules so far with one more behind them, or why there is none
-abbrev pub with_rule : List RangeMeaning → Result RangeMeaning LicenceFault → Result (List RangeMeaning) LicenceFault
-with_rule rules (Ok rule) = one_more rules rule
-with_rule rules (Err fault) = Err fault
 
 -- with further lines behind those so far, in their order: the first line that is refused decides
 abbrev pub with_lines : Result (List RangeMeaning) LicenceFault → List RuleLine → Result (List RangeMeaning) LicenceFault

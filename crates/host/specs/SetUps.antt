@@ -14,7 +14,7 @@ use Rattle.router.specs.Calls.{new_tree}
 use Rattle.host.specs.declared.lines.RuleLine.{RuleLine}
 use Rattle.host.specs.declared.tree.HostTree.{HostTree}
 use Rattle.host.specs.Told.{refused}
-use Rattle.host.specs.Rulebooks.{verdicts_of}
+use Rattle.rulebook.specs.Rulebooks.{verdicts_of}
 use Rattle.host.specs.Lines.{book_of_lines}
 use Rattle.host.specs.Trees.{means, shape_of}
 

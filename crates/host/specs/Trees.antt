@@ -3,7 +3,7 @@ use Rattle.wiring.specs.Shapes.{Shape}
 use Rattle.planner.specs.Cabinets.{cabinet_shape}
 use Rattle.router.specs.Kept.{Meaning, tree_of}
 use Rattle.host.specs.declared.tree.HostTree.{HostTree}
-use Rattle.host.specs.Rulebooks.{ruled}
+use Rattle.rulebook.specs.Rulebooks.{ruled}
 
 -- the router's meaning of the tree: the shape of its wiring, the verdicts of its rules, its cards, and its kept number of hops
 abbrev pub means : HostTree → Meaning

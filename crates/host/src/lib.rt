@@ -3,11 +3,9 @@
 
 mod calls;
 mod lines;
-mod rulebook;
 mod set_up;
 mod told;
 mod tree;
 
 pub use lines::RuleLine;
-pub use rulebook::Rulebook;
 pub use tree::HostTree;

@@ -2,11 +2,11 @@
 ghost use Rattle.std.specs.Prelude.{◌≡◌, List, map};
 ghost use Rattle.licence.specs.Granted.{granted};
 ghost use Rattle.licence.specs.Rules.{rule_in};
-ghost use Rattle.host.specs.Lines.{verdict_of, rule_of_line, with_rule, book_of_lines};
-ghost use Rattle.host.specs.Steps.{told, kept};
-ghost use Rattle.host.specs.Rulebooks.{rules_meant};
+ghost use Rattle.host.specs.Lines.{verdict_of, rule_of_line, book_of_lines};
+ghost use Rattle.rulebook.specs.Steps.{told, kept};
+ghost use Rattle.rulebook.specs.Rulebooks.{rules_meant, with_rule};
 
-use crate::rulebook::Rulebook;
+use rulebook::Rulebook;
 use licence::{RangeRule, Span, Verdict};
 use refusal::LicenceFault;
 

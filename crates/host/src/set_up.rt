@@ -4,7 +4,7 @@ ghost use Rattle.host.specs.Lines.{book_of_lines};
 ghost use Rattle.host.specs.SetUps.{SetUp, FullSetUp, WiredSetUp, Single, shape_told};
 
 use crate::lines::{RuleLine, read_rules};
-use crate::rulebook::Rulebook;
+use rulebook::Rulebook;
 use crate::told::refused;
 use crate::tree::HostTree;
 use planner::Cabinet;

@@ -1,5 +1,5 @@
 // The tree that a host holds.
-use crate::rulebook::Rulebook;
+use rulebook::Rulebook;
 use planner::Cabinet;
 use router::Tree;
 

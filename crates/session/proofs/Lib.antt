@@ -1,5 +1,4 @@
 mod Halfway
-mod Meant
 mod Padded
 mod SoFar
 mod Standing

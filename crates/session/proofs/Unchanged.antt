@@ -21,7 +21,8 @@ use Rattle.command.specs.declared.command.Command.TheVariants.{Tree, Rule, Go, S
 use Rattle.session.specs.declared.answer.Answer.TheVariants.{Done, Number, Word}
 use Rattle.session.specs.declared.fault.LineFault.{LineFault}
 use Rattle.session.specs.declared.fault.LineFault.TheVariants.{Packet as LinePacket, Fire as LineFire, Take as LineTake}
-use Rattle.session.specs.Desks.{Desk, Outcome, waiting, ruling, running, obeyed, founded, laid_down, with_rule, carried, answered, called}
+use Rattle.rulebook.specs.Rulebooks.{with_rule}
+use Rattle.session.specs.Desks.{Desk, Outcome, waiting, ruling, running, obeyed, founded, laid_down, carried, answered, called}
 use Rattle.session.specs.Sessions.{RefusedChangeNothing}
 
 -- where the outcome is a refusal, the old stands

@@ -6,7 +6,7 @@ use Rattle.router.specs.declared.tree.Tree.{Tree}
 use Rattle.router.specs.Kept.{Meaning, tree_of}
 use Rattle.session.specs.declared.console.Console.{Console}
 use Rattle.session.specs.declared.console.Console.TheVariants.{Waiting, Ruling, Running}
-use Rattle.session.specs.Rulebooks.{RangeRule, rules_meant, ruled}
+use Rattle.rulebook.specs.Rulebooks.{RangeRule, rules_meant, ruled}
 use Rattle.session.specs.Desks.{Desk, waiting, ruling, running}
 
 -- the shape of a full tree in hand

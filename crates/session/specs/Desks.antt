@@ -15,7 +15,7 @@ use Rattle.session.specs.declared.answer.Answer.{Answer}
 use Rattle.session.specs.declared.answer.Answer.TheVariants.{Done, Number, Word}
 use Rattle.session.specs.declared.fault.LineFault.{LineFault}
 use Rattle.session.specs.declared.fault.LineFault.TheVariants.{NotUnderstood, Tree as TreeFault, Rule as RuleFault, Packet as PacketFault, Fire as FireFault, Take as TakeFault}
-use Rattle.session.specs.Rulebooks.{one_more, verdicts_of}
+use Rattle.rulebook.specs.Rulebooks.{with_rule, verdicts_of}
 
 -- the console waits for a tree; or it has one and takes the rules; or the tree runs
 pub data Desk : Type 0 where
@@ -54,11 +54,6 @@ founded (Err fault) = refused waiting (TreeFault fault)
 abbrev pub carried : Option ℕ → Verdict
 carried None = Refuse
 carried (Some class) = Class class
-
--- the rules with the new one behind them, or why they stay
-abbrev pub with_rule : List RangeMeaning → Result RangeMeaning LicenceFault → Result (List RangeMeaning) LicenceFault
-with_rule rules (Ok rule) = one_more rules rule
-with_rule rules (Err fault) = Err fault
 
 -- `rule`
 abbrev pub laid_down : Shape → List RangeMeaning → Result (List RangeMeaning) LicenceFault → Outcome Desk

@@ -7,7 +7,7 @@ ghost use Rattle.session.specs.Sessions.{KeepsOn};
 
 use crate::answer::Answer;
 use crate::fault::LineFault;
-use crate::rulebook::Rulebook;
+use rulebook::Rulebook;
 use command::Command;
 use router::Tree;
 use station::{Input, Station};

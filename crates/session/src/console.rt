@@ -7,7 +7,7 @@ ghost use Rattle.session.specs.Sessions.{KeepsOn};
 use crate::answer::Answer;
 use crate::calling::call;
 use crate::fault::LineFault;
-use crate::rulebook::Rulebook;
+use rulebook::Rulebook;
 use crate::ruling::add_rule;
 use command::Command;
 use router::Tree;

@@ -6,7 +6,6 @@ mod calling;
 mod console;
 mod conversation;
 mod fault;
-mod rulebook;
 mod ruling;
 mod sessions;
 
@@ -14,5 +13,4 @@ pub use answer::{Answer, Reply};
 pub use console::Console;
 pub use conversation::{Conversation, converse};
 pub use fault::LineFault;
-pub use rulebook::Rulebook;
 pub use sessions::{refused_lines_change_nothing, replay};

@@ -3,11 +3,11 @@ ghost use Rattle.std.specs.Prelude.{◌≡◌};
 ghost use Rattle.licence.specs.Granted.{granted};
 ghost use Rattle.licence.specs.Rules.{rule_in};
 ghost use Rattle.licence.specs.Ranges.{range_of};
-ghost use Rattle.session.specs.Desks.{carried, with_rule};
-ghost use Rattle.session.specs.Rulebooks.{rules_meant};
-ghost use Rattle.session.specs.Steps.{told, kept};
+ghost use Rattle.session.specs.Desks.{carried};
+ghost use Rattle.rulebook.specs.Rulebooks.{rules_meant, with_rule};
+ghost use Rattle.rulebook.specs.Steps.{told, kept};
 
-use crate::rulebook::Rulebook;
+use rulebook::Rulebook;
 use licence::{RangeRule, Span, Verdict};
 use refusal::LicenceFault;
 

@@ -3,7 +3,7 @@ use Rattle.refusal.specs.declared.build.WiringFault.{WiringFault}
 use Rattle.wiring.specs.Shapes.{Shape, full_shape}
 use Rattle.wiring.specs.Fulls.{full_told}
 use Rattle.router.specs.Calls.{new_tree}
-use Rattle.host.specs.Rulebooks.{ruled}
+use Rattle.rulebook.specs.Rulebooks.{ruled}
 use Rattle.host.proofs.tree.HostTree.single.Goals as goal
 
 abbrev shape_in : Result Shape WiringFault → Shape

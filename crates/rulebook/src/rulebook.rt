@@ -1,6 +1,6 @@
-// The rules of a session, at most 64 and in fixed memory.
+// Range rules, at most 64 and in fixed memory.
 ghost use Rattle.std.specs.Prelude.{◌≤◌, List, take};
-ghost use Rattle.session.specs.Rulebooks.{RangeRule};
+ghost use Rattle.rulebook.specs.Rulebooks.{RangeRule};
 
 pub(crate) mod rules;
 

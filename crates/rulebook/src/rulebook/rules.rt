@@ -1,9 +1,9 @@
 // Making a rulebook, adding to it, and asking it.
 ghost use Rattle.std.specs.Prelude.{◌≡◌, []};
 ghost use Rattle.licence.specs.Books.{rules_in};
-ghost use Rattle.host.specs.Steps.{told, kept};
-ghost use Rattle.host.specs.Rulebooks.{one_more, ruled};
-ghost use Rattle.host.specs.Ruled.{ruled_known};
+ghost use Rattle.rulebook.specs.Steps.{told, kept};
+ghost use Rattle.rulebook.specs.Rulebooks.{one_more, ruled};
+ghost use Rattle.rulebook.specs.Ruled.{ruled_known};
 
 use super::{RULES, Rulebook};
 use licence::{Book, Policy, RangeRule, Span, Verdict};

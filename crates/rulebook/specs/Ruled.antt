@@ -6,7 +6,7 @@ use Rattle.licence.specs.declared.verdict.Verdict.TheVariants.{Refuse}
 use Rattle.licence.specs.Verdicts.{known}
 use Rattle.licence.specs.Rules.{rule_in}
 use Rattle.licence.specs.Ranges.{RangeMeaning, in_range}
-use Rattle.host.specs.Rulebooks.{RangeRule, rules_meant, ruled}
+use Rattle.rulebook.specs.Rulebooks.{RangeRule, rules_meant, ruled}
 
 pub ruled_known : (rules : List RangeRule) (card key : ℕ) → known (ruled rules card key) ≡ true
 ruled_known [] card key = refl

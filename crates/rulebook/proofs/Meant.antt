@@ -7,7 +7,7 @@ use Rattle.licence.specs.declared.verdict.Verdict.TheVariants.{Refuse}
 use Rattle.licence.specs.Rules.{rule_in, rule_covers, rule_carries}
 use Rattle.licence.specs.Ranges.{RangeMeaning, in_range, within}
 use Rattle.licence.specs.Books.{first_of}
-use Rattle.host.specs.Rulebooks.{RangeRule, rules_meant, ruled}
+use Rattle.rulebook.specs.Rulebooks.{RangeRule, rules_meant, ruled}
 
 abbrev le : ℕ → ℕ → Bool
 le = partial_le (λ x y. Some (nat_cmp x y))

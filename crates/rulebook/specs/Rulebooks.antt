@@ -1,5 +1,5 @@
--- The rules of a session, and the policy that they make.
-use Rattle.std.specs.Prelude.{ℕ, List, [], ◌∷◌, ◌++◌, map, Result}
+-- A list of rules, and the policy that they make.
+use Rattle.std.specs.Prelude.{ℕ, List, [], ◌∷◌, ◌++◌, map, Ok, Err, Result}
 use Rattle.refusal.specs.declared.build.LicenceFault.{LicenceFault}
 use Rattle.licence.specs.declared.sets.Span.{Span}
 use Rattle.licence.specs.declared.set_rule.SetRule.{SetRule}
@@ -15,6 +15,11 @@ RangeRule = SetRule (Span ℕ) (Span ℕ)
 -- the book of these rules and one more behind them, or why there is none
 abbrev pub one_more : {R : Type 0} → List R → R → Result (List R) LicenceFault
 one_more rules rule = book_of (rules ++ rule ∷ [])
+
+-- the rules with the new one behind them, or why they stay
+abbrev pub with_rule : List RangeMeaning → Result RangeMeaning LicenceFault → Result (List RangeMeaning) LicenceFault
+with_rule rules (Ok rule) = one_more rules rule
+with_rule rules (Err fault) = Err fault
 
 -- the verdicts of the book of these rules
 abbrev pub verdicts_of : List RangeMeaning → ℕ → ℕ → Verdict

@@ -1,6 +1,0 @@
-use Rattle.std.proofs.Common.{◌∙◌}
-use Rattle.session.proofs.Meant.{meant}
-use Rattle.session.proofs.rulebook.rules.RulebookPolicy.ask.Goals as goal
-
-pub returns : goal.returns
-returns c = c.ask.ensures.meaning ∙ rw c.book.ensures (meant c.args.self.now c.args.card c.args.key)
