@@ -65,17 +65,26 @@ fn replace(tree: &mut Tree, made: Result<Tree, Refusal>) -> u64 {
     }))
 }
 
+/// There is no station or no input of that number, the room is too small, or the pointer to the tree is null.
+const NO_STATION: u64 = 101 << 32;
+const NO_INPUT: u64 = 102 << 32;
+const NO_ROOM: u64 = 103 << 32;
+const NO_TREE: u64 = 104 << 32;
+
 /// How many bytes a tree takes, aligned to 8.
 #[no_mangle]
 pub extern "C" fn plain_bytes() -> usize {
     std::mem::size_of::<Tree>()
 }
 
-/// Writes the tree of one card and no rules. Answers 0, or refusal 100 where the room is too small.
+/// Writes the tree of one card and no rules.
 #[no_mangle]
 pub unsafe extern "C" fn plain_begin(room: *mut Tree, bytes: usize) -> u64 {
+    if room.is_null() {
+        return NO_TREE;
+    }
     if bytes < plain_bytes() {
-        return 100 << 32;
+        return NO_ROOM;
     }
     match Wiring::full(1) {
         Ok(wiring) => room.write(Tree::new(wiring, Vec::new())),
@@ -97,8 +106,11 @@ pub unsafe extern "C" fn plain_full(
     lines: *const RuleLine,
     count: usize,
 ) -> u64 {
+    let Some(tree) = tree.as_mut() else {
+        return NO_TREE;
+    };
     let made = set_up(Wiring::full(levels), from_raw_parts(lines, count));
-    replace(&mut *tree, made)
+    replace(tree, made)
 }
 
 #[no_mangle]
@@ -109,8 +121,11 @@ pub unsafe extern "C" fn plain_wired(
     lines: *const RuleLine,
     count: usize,
 ) -> u64 {
+    let Some(tree) = tree.as_mut() else {
+        return NO_TREE;
+    };
     let wiring = Wiring::table(from_raw_parts(table, len));
-    replace(&mut *tree, set_up(wiring, from_raw_parts(lines, count)))
+    replace(tree, set_up(wiring, from_raw_parts(lines, count)))
 }
 
 #[no_mangle]
@@ -120,16 +135,22 @@ pub unsafe extern "C" fn plain_send(
     packet: *const u32,
     len: usize,
 ) -> u64 {
-    told((*tree).send(card, from_raw_parts(packet, len)).map(|()| 0))
+    let Some(tree) = tree.as_mut() else {
+        return NO_TREE;
+    };
+    told(tree.send(card, from_raw_parts(packet, len)).map(|()| 0))
 }
 
-/// Stations: 0 up, 1 down. Inputs: 0 left, 1 right, 2 queue, 3 parent, 4 turn. Other numbers are answered as refusals 101 and 102.
+/// Stations: 0 up, 1 down. Inputs: 0 left, 1 right, 2 queue, 3 parent, 4 turn.
 #[no_mangle]
 pub unsafe extern "C" fn plain_fire(tree: *mut Tree, card: u16, station: u8, input: u8) -> u64 {
+    let Some(tree) = tree.as_mut() else {
+        return NO_TREE;
+    };
     let station = match station {
         0 => Station::Up,
         1 => Station::Down,
-        _ => return 101 << 32,
+        _ => return NO_STATION,
     };
     let input = match input {
         0 => Input::Left,
@@ -137,19 +158,25 @@ pub unsafe extern "C" fn plain_fire(tree: *mut Tree, card: u16, station: u8, inp
         2 => Input::Queue,
         3 => Input::Parent,
         4 => Input::Turn,
-        _ => return 102 << 32,
+        _ => return NO_INPUT,
     };
-    told((*tree).fire(card, station, input).map(u32::from))
+    told(tree.fire(card, station, input).map(u32::from))
 }
 
 #[no_mangle]
 pub unsafe extern "C" fn plain_take(tree: *mut Tree, card: u16) -> u64 {
-    told((*tree).take(card))
+    let Some(tree) = tree.as_mut() else {
+        return NO_TREE;
+    };
+    told(tree.take(card))
 }
 
 #[no_mangle]
 pub unsafe extern "C" fn plain_owed(tree: *const Tree) -> u64 {
-    u64::from((*tree).owed())
+    let Some(tree) = tree.as_ref() else {
+        return NO_TREE;
+    };
+    u64::from(tree.owed())
 }
 
 #[no_mangle]
@@ -159,5 +186,8 @@ pub unsafe extern "C" fn plain_order(
     cards: *const u16,
     len: usize,
 ) -> u64 {
-    told(order((*tree).wiring(), sender, from_raw_parts(cards, len)))
+    let Some(tree) = tree.as_ref() else {
+        return NO_TREE;
+    };
+    told(order(tree.wiring(), sender, from_raw_parts(cards, len)))
 }
