@@ -6,9 +6,9 @@ ghost use Rattle.host.specs.Lines.{verdict_of, rule_of_line, book_of_lines};
 ghost use Rattle.rulebook.specs.Steps.{told, kept};
 ghost use Rattle.rulebook.specs.Rulebooks.{rules_meant, with_rule};
 
-use rulebook::Rulebook;
 use licence::{RangeRule, Span, Verdict};
 use refusal::LicenceFault;
+use rulebook::Rulebook;
 
 // A rule for the cards and the keys from low to high, both counted; the class is 0 to 3, or 255 for 'refuse'.
 #[repr(C)]

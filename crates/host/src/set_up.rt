@@ -4,12 +4,12 @@ ghost use Rattle.host.specs.Lines.{book_of_lines};
 ghost use Rattle.host.specs.SetUps.{SetUp, FullSetUp, WiredSetUp, Single, shape_told};
 
 use crate::lines::{RuleLine, read_rules};
-use rulebook::Rulebook;
 use crate::told::refused;
 use crate::tree::HostTree;
 use planner::Cabinet;
 use refusal::{Fault, WiringFault};
 use router::Tree;
+use rulebook::Rulebook;
 use wiring::{FullTree, WiredTree};
 
 impl HostTree {

@@ -7,9 +7,9 @@ ghost use Rattle.session.specs.Sessions.{KeepsOn};
 
 use crate::answer::Answer;
 use crate::fault::LineFault;
-use rulebook::Rulebook;
 use command::Command;
 use router::Tree;
+use rulebook::Rulebook;
 use station::{Input, Station};
 use wiring::FullTree;
 

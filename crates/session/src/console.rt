@@ -7,10 +7,10 @@ ghost use Rattle.session.specs.Sessions.{KeepsOn};
 use crate::answer::Answer;
 use crate::calling::call;
 use crate::fault::LineFault;
-use rulebook::Rulebook;
 use crate::ruling::add_rule;
 use command::Command;
 use router::Tree;
+use rulebook::Rulebook;
 use std::mem;
 use wiring::FullTree;
 

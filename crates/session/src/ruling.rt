@@ -7,9 +7,9 @@ ghost use Rattle.session.specs.Desks.{carried};
 ghost use Rattle.rulebook.specs.Rulebooks.{rules_meant, with_rule};
 ghost use Rattle.rulebook.specs.Steps.{told, kept};
 
-use rulebook::Rulebook;
 use licence::{RangeRule, Span, Verdict};
 use refusal::LicenceFault;
+use rulebook::Rulebook;
 
 // The rule. The class is checked before it is narrowed to a byte: 256 is no class.
 fn range_rule(
