@@ -13,7 +13,7 @@ pub struct Books {
 }
 
 impl Books {
-    pub fn new(heap: Global, cards: u16) -> Result<Books, AllocError> {
+    pub(crate) fn new(heap: Global, cards: u16) -> Result<Books, AllocError> {
         let mut due = Vec::new(heap);
         let mut taken = Vec::new(heap);
         for _ in 0..cards {
@@ -30,7 +30,7 @@ impl Books {
     }
 
     // A granted send: its path hops, and its arrival at each card that it reaches and that keeps it.
-    pub fn sent(
+    pub(crate) fn sent(
         &mut self,
         model: &Simulator,
         journey: Journey,
@@ -85,11 +85,11 @@ impl Books {
         Ok(())
     }
 
-    pub fn fired(&mut self) {
+    pub(crate) fn fired(&mut self) {
         self.fires = self.fires.saturating_add(1);
     }
 
-    pub fn took(&mut self, card: u16, word: u32) -> Result<(), AllocError> {
+    pub(crate) fn took(&mut self, card: u16, word: u32) -> Result<(), AllocError> {
         if let Some(taken) = self.taken.get_mut(usize::from(card)) {
             taken.push(word)?;
         }
@@ -97,12 +97,12 @@ impl Books {
     }
 
     // The hops that must be owed.
-    pub fn owed(&self) -> u64 {
+    pub(crate) fn owed(&self) -> u64 {
         self.path_hops.saturating_sub(self.fires)
     }
 
     // At quiet: are each card's words its due arrivals, whole, each list as often as it is due?
-    pub fn settle(&mut self) -> Result<bool, AllocError> {
+    pub(crate) fn settle(&mut self) -> Result<bool, AllocError> {
         let heap = self.heap;
         for (due, taken) in self.due.iter_mut().zip(self.taken.iter()) {
             let Some(mut arrived) = arrivals(heap, taken.as_slice())? else {

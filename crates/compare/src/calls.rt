@@ -32,7 +32,7 @@ pub enum Answer {
 
 impl Answer {
     // A refusal of the simulator.
-    pub fn no(no: No) -> Answer {
+    pub(crate) fn no(no: No) -> Answer {
         Answer::Refused {
             number: no.number,
             place: no.place,
@@ -40,7 +40,7 @@ impl Answer {
     }
 
     // A refusal of the router.
-    pub fn fault<F: Fault + Drop>(fault: F) -> Answer {
+    pub(crate) fn fault<F: Fault + Drop>(fault: F) -> Answer {
         let refusal = fault.refusal();
         Answer::Refused {
             number: refusal.number,

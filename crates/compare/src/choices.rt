@@ -15,7 +15,7 @@ pub struct Mood {
 }
 
 impl Mood {
-    pub fn draw(dice: &mut Dice) -> Mood {
+    pub(crate) fn draw(dice: &mut Dice) -> Mood {
         let (sends, takes) = match dice.below(8) {
             // The queues fill.
             0 => (70, 2),
@@ -91,7 +91,7 @@ fn waiting_fire(dice: &mut Dice, model: &Simulator) -> Option<Call> {
     None
 }
 
-pub fn choose(
+pub(crate) fn choose(
     heap: Global,
     dice: &mut Dice,
     mood: Mood,

@@ -10,18 +10,18 @@ pub struct Dice {
 }
 
 impl Dice {
-    pub fn new(seed: u64) -> Dice {
+    pub(crate) fn new(seed: u64) -> Dice {
         Dice {
             rng: Xoshiro256PlusPlus::seed_from_u64(seed),
         }
     }
 
-    pub fn word(&mut self) -> u32 {
+    pub(crate) fn word(&mut self) -> u32 {
         self.rng.next_u32()
     }
 
     // A number below this one; 0 where there is none.
-    pub fn below(&mut self, count: u32) -> u32
+    pub(crate) fn below(&mut self, count: u32) -> u32
         ensures { 0 < count → result < count }
     {
         if count == 0 {
@@ -31,21 +31,21 @@ impl Dice {
     }
 
     // A number from low to high.
-    pub fn between(&mut self, low: u32, high: u32) -> u32 {
+    pub(crate) fn between(&mut self, low: u32, high: u32) -> u32 {
         let count = high.saturating_sub(low).saturating_add(1);
         low.saturating_add(self.below(count))
     }
 
     // A card number below this one.
-    pub fn card(&mut self, cards: u16) -> u16 {
+    pub(crate) fn card(&mut self, cards: u16) -> u16 {
         (self.below(u32::from(cards)) & 0xffff) as u16
     }
 
-    pub fn byte(&mut self) -> u8 {
+    pub(crate) fn byte(&mut self) -> u8 {
         (self.rng.next_u32() & 0xff) as u8
     }
 
-    pub fn one_in(&mut self, count: u32) -> bool {
+    pub(crate) fn one_in(&mut self, count: u32) -> bool {
         self.below(count) == 0
     }
 }

@@ -49,7 +49,7 @@ fn wants(answer: Answer, wanted: Answer) -> Result<(), Trouble> {
     }
 }
 
-pub fn edge(heap: Global) -> Result<Tally, Trouble> {
+pub(crate) fn edge(heap: Global) -> Result<Tally, Trouble> {
     let rules: [RangeRule; 0] = [];
     let (Ok(wiring), Ok(book)) = (FullTree::new(2), Book::new(&rules)) else {
         return Err(Trouble::Setup("the edge of a queue is not set up"));

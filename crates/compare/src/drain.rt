@@ -9,7 +9,9 @@ use wiring::Wiring;
 // No tree owes more hops than this.
 const MOST_HOPS: u32 = 128_774;
 
-pub fn drain<W: Wiring + Drop, P: Policy + Drop>(run: &mut Run<W, P>) -> Result<(), Trouble> {
+pub(crate) fn drain<W: Wiring + Drop, P: Policy + Drop>(
+    run: &mut Run<W, P>,
+) -> Result<(), Trouble> {
     // Each round fires at least once, or takes and then fires.
     for _ in 0..MOST_HOPS {
         if run.model.owed() == 0 {

@@ -19,7 +19,7 @@ fn add(count: &mut u64, by: u64) {
 
 impl Kinds {
     // The kinds of one world.
-    pub fn of(world: &World) -> Kinds {
+    pub(crate) fn of(world: &World) -> Kinds {
         let layers = world.licences.layers.len();
         Kinds {
             full: u64::from(world.levels.is_some()),
@@ -32,7 +32,7 @@ impl Kinds {
         }
     }
 
-    pub fn join(&mut self, other: Kinds) {
+    pub(crate) fn join(&mut self, other: Kinds) {
         add(&mut self.full, other.full);
         add(&mut self.wired, other.wired);
         add(&mut self.ranges, other.ranges);

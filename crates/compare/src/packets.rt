@@ -110,7 +110,7 @@ fn packet_of(
 }
 
 // A packet without a fault.
-pub fn good_packet(
+pub(crate) fn good_packet(
     heap: Global,
     dice: &mut Dice,
     family: &Family,
@@ -121,7 +121,7 @@ pub fn good_packet(
 }
 
 // A packet with a fault or two, or with what may be a fault.
-pub fn bad_packet(
+pub(crate) fn bad_packet(
     heap: Global,
     dice: &mut Dice,
     family: &Family,

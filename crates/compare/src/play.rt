@@ -29,7 +29,7 @@ struct Rest {
 }
 
 // The run of this seed.
-pub fn play_world(heap: Global, seed: u64) -> Result<Tally, Trouble> {
+pub(crate) fn play_world(heap: Global, seed: u64) -> Result<Tally, Trouble> {
     let mut dice = Dice::new(seed);
     let world = draw(heap, &mut dice)?;
     let kinds = Kinds::of(&world);

@@ -4,7 +4,7 @@ use crate::troubles::Trouble;
 use licence::{KeyPattern, PatternRule, Policy, RangeRule, Span, Verdict, Withdrawal};
 use std::alloc::Global;
 
-pub fn range_rules(heap: Global, listed: &[Rule]) -> Result<Vec<RangeRule>, Trouble> {
+pub(crate) fn range_rules(heap: Global, listed: &[Rule]) -> Result<Vec<RangeRule>, Trouble> {
     let mut rules = Vec::new(heap);
     for rule in listed {
         if let Scope::Range {
@@ -26,7 +26,7 @@ pub fn range_rules(heap: Global, listed: &[Rule]) -> Result<Vec<RangeRule>, Trou
     Ok(rules)
 }
 
-pub fn pattern_rules(heap: Global, listed: &[Rule]) -> Result<Vec<PatternRule>, Trouble> {
+pub(crate) fn pattern_rules(heap: Global, listed: &[Rule]) -> Result<Vec<PatternRule>, Trouble> {
     let mut rules = Vec::new(heap);
     for rule in listed {
         if let Scope::Pattern { set, value, care } = rule.scope {
@@ -47,7 +47,7 @@ fn verdict(class: Option<u8>) -> Verdict {
 }
 
 // A layer over a policy, with these keys withdrawn.
-pub fn withdrawn<P: Policy + Drop>(policy: P, keys: &[u8]) -> Withdrawal<P> {
+pub(crate) fn withdrawn<P: Policy + Drop>(policy: P, keys: &[u8]) -> Withdrawal<P> {
     let mut layer = Withdrawal::over(policy);
     for key in keys {
         layer.withdraw(*key);

@@ -19,7 +19,7 @@ pub struct Run<W: Wiring, P: Policy> {
 }
 
 impl<W: Wiring + Drop, P: Policy + Drop> Run<W, P> {
-    pub fn new(
+    pub(crate) fn new(
         heap: Global,
         seed: u64,
         wiring: W,
@@ -37,7 +37,7 @@ impl<W: Wiring + Drop, P: Policy + Drop> Run<W, P> {
     }
 
     // Makes a call on both sides. Their answers are the same, and so are the hops owed after it, or the run ends.
-    pub fn call(&mut self, call: Call) -> Result<Answer, Trouble> {
+    pub(crate) fn call(&mut self, call: Call) -> Result<Answer, Trouble> {
         let simulator = self.simulate(&call)?;
         let router = self.route(&call);
         if router != simulator {
@@ -149,7 +149,7 @@ impl<W: Wiring + Drop, P: Policy + Drop> Run<W, P> {
     }
 
     // At quiet, with empty inboxes: are each card's words its due arrivals?
-    pub fn settle(&mut self) -> Result<(), Trouble> {
+    pub(crate) fn settle(&mut self) -> Result<(), Trouble> {
         if self.books.settle()? {
             Ok(())
         } else {

@@ -53,7 +53,7 @@ impl fmt::Display for Count {
 
 impl Tally {
     // Of one run, before its first call.
-    pub fn new() -> Tally {
+    pub(crate) fn new() -> Tally {
         Tally {
             runs: 1,
             kinds: Kinds::default(),
@@ -71,7 +71,7 @@ impl Tally {
     }
 
     // One call and its answer.
-    pub fn call(&mut self, call: &Call, answer: Answer) {
+    pub(crate) fn call(&mut self, call: &Call, answer: Answer) {
         match call {
             Call::Send { .. } => self.sends.call(answer),
             Call::Fire { .. } => self.fires.call(answer),
@@ -86,7 +86,7 @@ impl Tally {
     }
 
     // The mode of a packet that is queued.
-    pub fn mode(&mut self, floods: bool) {
+    pub(crate) fn mode(&mut self, floods: bool) {
         if floods {
             more(&mut self.floods, 1);
         } else {
@@ -95,13 +95,13 @@ impl Tally {
     }
 
     // The sizes after a call.
-    pub fn sizes(&mut self, queue: usize, inbox: usize, owed: u64) {
+    pub(crate) fn sizes(&mut self, queue: usize, inbox: usize, owed: u64) {
         self.deepest_queue = self.deepest_queue.max(queue as u64);
         self.fullest_inbox = self.fullest_inbox.max(inbox as u64);
         self.most_owed = self.most_owed.max(owed);
     }
 
-    pub fn join(&mut self, other: &Tally) {
+    pub(crate) fn join(&mut self, other: &Tally) {
         more(&mut self.runs, other.runs);
         self.kinds.join(other.kinds);
         self.sends.join(other.sends);
@@ -119,7 +119,7 @@ impl Tally {
     }
 
     // All calls made.
-    pub fn calls(&self) -> u64 {
+    pub(crate) fn calls(&self) -> u64 {
         self.sends
             .made
             .saturating_add(self.fires.made)

@@ -117,7 +117,7 @@ fn licences(heap: Global, dice: &mut Dice, patterns: bool) -> Result<Licences, A
 }
 
 // Full trees of one to five levels, and trees by tables of 1 to 31 cards, in turn.
-pub fn draw(heap: Global, dice: &mut Dice) -> Result<World, AllocError> {
+pub(crate) fn draw(heap: Global, dice: &mut Dice) -> Result<World, AllocError> {
     let full = dice.one_in(2);
     let levels = dice.between(1, 5);
     let cards = if full {

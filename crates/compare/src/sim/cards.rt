@@ -43,7 +43,7 @@ pub struct Card {
 }
 
 impl Card {
-    pub fn new(heap: Global) -> Card {
+    pub(crate) fn new(heap: Global) -> Card {
         Card {
             queue: VecDeque::new(heap),
             inbox: VecDeque::new(heap),

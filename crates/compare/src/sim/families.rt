@@ -38,7 +38,7 @@ fn find_parent(daughters: &[Daughters], card: u16) -> Option<u16> {
 
 impl Family {
     // The tree that a table lists: two bytes for each card in turn.
-    pub fn of(heap: Global, table: &[u8]) -> Result<Family, AllocError> {
+    pub(crate) fn of(heap: Global, table: &[u8]) -> Result<Family, AllocError> {
         let mut daughters = Vec::new(heap);
         for pair in table.chunks(2) {
             if let [left, right] = pair {
@@ -65,11 +65,11 @@ impl Family {
         Ok(family)
     }
 
-    pub fn cards(&self) -> u16 {
+    pub(crate) fn cards(&self) -> u16 {
         u16::try_from(self.daughters.len()).unwrap_or(u16::MAX)
     }
 
-    pub fn daughters(&self, card: u16) -> Daughters {
+    pub(crate) fn daughters(&self, card: u16) -> Daughters {
         self.daughters
             .get(usize::from(card))
             .copied()
@@ -79,17 +79,17 @@ impl Family {
             })
     }
 
-    pub fn parent(&self, card: u16) -> Option<u16> {
+    pub(crate) fn parent(&self, card: u16) -> Option<u16> {
         self.parents.get(usize::from(card)).copied().flatten()
     }
 
     // The cards of the subtree, the card itself among them.
-    pub fn size(&self, card: u16) -> u64 {
+    pub(crate) fn size(&self, card: u16) -> u64 {
         self.sizes.get(usize::from(card)).copied().unwrap_or(0)
     }
 
     // Does one get from the lower card to the upper by links up, or are they the same?
-    pub fn stands_over(&self, upper: u16, lower: u16) -> bool {
+    pub(crate) fn stands_over(&self, upper: u16, lower: u16) -> bool {
         let mut at = lower;
         for _ in 0..32 {
             if at == upper {

@@ -6,7 +6,7 @@ use std::alloc::AllocError;
 
 impl Simulator {
     // Moves the word.
-    pub fn fire(
+    pub(crate) fn fire(
         &mut self,
         card: u16,
         station: Station,

@@ -5,7 +5,7 @@ use super::words;
 use station::{Input, Station};
 
 impl Simulator {
-    pub fn owed(&self) -> u64 {
+    pub(crate) fn owed(&self) -> u64 {
         let mut owed = 0u64;
         for (number, card) in self.cards.iter().enumerate() {
             let number = u16::try_from(number).unwrap_or(u16::MAX);

@@ -24,7 +24,7 @@ fn leading_ones(route: u32) -> u32 {
 
 impl Family {
     // The way from a card by a route, or the first fault: 9, 10 or 11.
-    pub fn journey(&self, sender: u16, route: u32) -> Result<Journey, No> {
+    pub(crate) fn journey(&self, sender: u16, route: u32) -> Result<Journey, No> {
         let ups = leading_ones(route).min(9);
         if (route << ups) & 0x1ff == 0 {
             return Err(No::at(9, usize::from(sender)));

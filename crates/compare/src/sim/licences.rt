@@ -39,7 +39,7 @@ impl Scope {
 
 impl Licences {
     // The class with which a card keeps a flood of this key, or none where it drops it.
-    pub fn class(&self, card: u16, key: u8) -> Option<u8> {
+    pub(crate) fn class(&self, card: u16, key: u8) -> Option<u8> {
         for layer in &self.layers {
             if layer.contains(&key) {
                 return None;

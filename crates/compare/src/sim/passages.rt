@@ -51,7 +51,7 @@ fn from_down(head: u32, daughters: Daughters) -> (Outputs, Stay) {
 
 impl Passage {
     // The outputs written, as a sum.
-    pub fn sum(&self) -> u8 {
+    pub(crate) fn sum(&self) -> u8 {
         let mut sum = 0;
         if self.outputs.up {
             sum |= 1;
@@ -74,7 +74,12 @@ impl Passage {
 
 impl Simulator {
     // May the word that waits at an input pass, and how?
-    pub fn may_fire(&self, card: u16, station: Station, input: Input) -> Result<Passage, No> {
+    pub(crate) fn may_fire(
+        &self,
+        card: u16,
+        station: Station,
+        input: Input,
+    ) -> Result<Passage, No> {
         let word = self.waiting(card, station, input)?;
         let passage = match self.held(card, station) {
             None if words::is_head(word) => self.head(card, station, input, word),

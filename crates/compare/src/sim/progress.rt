@@ -12,7 +12,7 @@ pub const INPUTS: [(Station, Input); 5] = [
 ];
 
 impl Simulator {
-    pub fn can_go_on(&self) -> bool {
+    pub(crate) fn can_go_on(&self) -> bool {
         for card in 0..self.family.cards() {
             for (station, input) in INPUTS {
                 match self.may_fire(card, station, input) {

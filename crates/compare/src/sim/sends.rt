@@ -35,7 +35,7 @@ fn check_reserved(head: u32, key_word: u32) -> Result<(), No> {
 
 impl Simulator {
     // May the card send this packet, and where does it go?
-    pub fn may_send(&self, card: u16, packet: &[u32]) -> Result<Journey, No> {
+    pub(crate) fn may_send(&self, card: u16, packet: &[u32]) -> Result<Journey, No> {
         let here = self.card(card)?;
         let [head, key_word, ..] = packet else {
             return Err(No::plain(6));
@@ -53,7 +53,7 @@ impl Simulator {
     }
 
     // Puts the packet's words at the end of the queue.
-    pub fn send(&mut self, card: u16, packet: &[u32]) -> Result<(), AllocError> {
+    pub(crate) fn send(&mut self, card: u16, packet: &[u32]) -> Result<(), AllocError> {
         if let Some(here) = self.cards.get_mut(usize::from(card)) {
             for word in packet {
                 here.queue.push_back(*word)?;

@@ -16,14 +16,14 @@ pub struct No {
 }
 
 impl No {
-    pub fn plain(number: u8) -> No {
+    pub(crate) fn plain(number: u8) -> No {
         No {
             number,
             place: None,
         }
     }
 
-    pub fn at(number: u8, place: usize) -> No {
+    pub(crate) fn at(number: u8, place: usize) -> No {
         No {
             number,
             place: Some(place),
@@ -40,7 +40,11 @@ pub struct Simulator {
 
 impl Simulator {
     // An empty tree.
-    pub fn new(heap: Global, family: Family, licences: Licences) -> Result<Simulator, AllocError> {
+    pub(crate) fn new(
+        heap: Global,
+        family: Family,
+        licences: Licences,
+    ) -> Result<Simulator, AllocError> {
         let mut cards = Vec::new(heap);
         for _ in 0..family.cards() {
             cards.push(Card::new(heap))?;
@@ -52,12 +56,12 @@ impl Simulator {
         })
     }
 
-    pub fn card(&self, card: u16) -> Result<&Card, No> {
+    pub(crate) fn card(&self, card: u16) -> Result<&Card, No> {
         self.cards.get(usize::from(card)).ok_or(No::plain(5))
     }
 
     // The word that waits at an input: refused is an input that is not there, and then an empty one.
-    pub fn waiting(&self, card: u16, station: Station, input: Input) -> Result<u32, No> {
+    pub(crate) fn waiting(&self, card: u16, station: Station, input: Input) -> Result<u32, No> {
         let here = self.card(card)?;
         let daughters = self.family.daughters(card);
         let word = match (station, input) {
@@ -83,7 +87,7 @@ impl Simulator {
     }
 
     // How a station of a card is held.
-    pub fn held(&self, card: u16, station: Station) -> Option<Held> {
+    pub(crate) fn held(&self, card: u16, station: Station) -> Option<Held> {
         let card = self.cards.get(usize::from(card))?;
         match station {
             Station::Up => card.up,
