@@ -33,6 +33,8 @@ int main(void)
     const uint16_t both[] = {1, 2};
     const uint8_t table[] = {1, 2, 255, 255, 255, 255};
     const uint8_t broken[] = {1, 1, 255, 255, 255, 255};
+    enum { MANY = 66 };
+    zel_rule many[MANY];
 
     zel_tree *tree = malloc(zel_bytes());
 
@@ -42,6 +44,12 @@ int main(void)
     if (wrong != 0)
         return 1;
     refused("full 0", zel_full(tree, 0, rules, 1), 1);
+    for (int line = 0; line < MANY; line++)
+        many[line] = rules[0];
+    refused("full 2, 66 rules", zel_full(tree, 2, many, MANY), 4);
+    many[MANY - 1].high_card = 0;
+    refused("full 2, the 66th is none", zel_full(tree, 2, many, MANY), 3);
+    granted("full 2, 64 rules", zel_full(tree, 2, many, 64), 0);
     granted("full 2", zel_full(tree, 2, rules, 1), 0);
 
     granted("order 1 to 1", zel_order(tree, 1, both, 1), 0x80000080u);

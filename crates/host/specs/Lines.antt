@@ -3,9 +3,9 @@ use Rattle.std.specs.Prelude.{ℕ, cond, List, [], ◌∷◌, Ok, Err, Result, �
 use Rattle.refusal.specs.declared.build.LicenceFault.{LicenceFault}
 use Rattle.licence.specs.declared.verdict.Verdict.{Verdict}
 use Rattle.licence.specs.declared.verdict.Verdict.TheVariants.{Refuse, Class}
+use Rattle.licence.specs.Books.{book_of}
 use Rattle.licence.specs.Ranges.{RangeMeaning, range_of}
 use Rattle.host.specs.declared.lines.RuleLine.{RuleLine}
-use Rattle.rulebook.specs.Rulebooks.{with_rule}
 
 -- a class, or 255 for 'refuse'
 abbrev pub verdict_of : ℕ → Verdict
@@ -15,12 +15,22 @@ verdict_of class = cond (class == 255) Refuse (Class class)
 abbrev pub rule_of_line : RuleLine → Result RangeMeaning LicenceFault
 rule_of_line l = range_of (record { low = l.low_card; high = l.high_card }) (record { low = l.low_key; high = l.high_key }) (verdict_of l.class)
 
--- with further lines behind those so far, in their order: the first line that is refused decides
-abbrev pub with_lines : Result (List RangeMeaning) LicenceFault → List RuleLine → Result (List RangeMeaning) LicenceFault
-with_lines (Ok rules) [] = Ok rules
-with_lines (Ok rules) (l ∷ ls) = with_lines (with_rule rules (rule_of_line l)) ls
-with_lines (Err fault) ls = Err fault
+-- a line's rule before the rules of the lines behind it: the first line that states none decides
+abbrev pub with_first : Result RangeMeaning LicenceFault → Result (List RangeMeaning) LicenceFault → Result (List RangeMeaning) LicenceFault
+with_first (Ok rule) (Ok rules) = Ok (rule ∷ rules)
+with_first (Ok rule) (Err fault) = Err fault
+with_first (Err fault) rules = Err fault
 
--- the rules that the lines state
+-- the rules that the lines state, in their order, or why one of them states none
+abbrev pub rules_stated : List RuleLine → Result (List RangeMeaning) LicenceFault
+rules_stated [] = Ok []
+rules_stated (l ∷ ls) = with_first (rule_of_line l) (rules_stated ls)
+
+-- the book of these rules: their number is judged when each of them is stated
+abbrev pub book_stated : Result (List RangeMeaning) LicenceFault → Result (List RangeMeaning) LicenceFault
+book_stated (Ok rules) = book_of rules
+book_stated (Err fault) = Err fault
+
+-- the book of the rules that the lines state
 abbrev pub book_of_lines : List RuleLine → Result (List RangeMeaning) LicenceFault
-book_of_lines ls = with_lines (Ok []) ls
+book_of_lines ls = book_stated (rules_stated ls)

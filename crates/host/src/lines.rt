@@ -2,9 +2,9 @@
 ghost use Rattle.std.specs.Prelude.{◌≡◌, List, map};
 ghost use Rattle.licence.specs.Granted.{granted};
 ghost use Rattle.licence.specs.Rules.{rule_in};
-ghost use Rattle.host.specs.Lines.{verdict_of, rule_of_line, book_of_lines};
-ghost use Rattle.rulebook.specs.Steps.{told, kept};
-ghost use Rattle.rulebook.specs.Rulebooks.{rules_meant, with_rule};
+ghost use Rattle.host.specs.Lines.{verdict_of, rule_of_line, rules_stated, book_of_lines};
+ghost use Rattle.rulebook.specs.Steps.{told};
+ghost use Rattle.rulebook.specs.Rulebooks.{rules_meant};
 
 use licence::{RangeRule, Span, Verdict};
 use refusal::LicenceFault;
@@ -51,21 +51,25 @@ impl RuleLine {
     }
 }
 
-// Adds the rule that a line states behind the others.
-fn add_line(book: &mut Rulebook, line: &RuleLine) -> Result<(), LicenceFault>
-    ensures answer { result ≡ told (with_rule (rules_meant book.old) (rule_of_line line.now)) }
-    ensures next { rules_meant book.new ≡ kept (rules_meant book.old) (with_rule (rules_meant book.old) (rule_of_line line.now)) }
+// Whether each line states a rule. The first that does not decides.
+fn check_lines(lines: &[RuleLine]) -> Result<(), LicenceFault>
+    ensures { result ≡ told (rules_stated lines.now) }
 {
-    book.add(line.rule()?)
+    for line in lines {
+        line.rule()?;
+    }
+    Ok(())
 }
 
-// The rules that the lines state, in their order. The first line that is refused decides.
+// The book of the rules that the lines state, in their order. Each of them is judged before their number is.
+#[tactic(auto, using(crate::proofs::Adding::all_added))]
 pub(crate) fn read_rules(lines: &[RuleLine]) -> Result<Rulebook, LicenceFault>
     ensures { granted rules_meant result ≡ book_of_lines lines.now }
 {
+    check_lines(lines)?;
     let mut book = Rulebook::new();
     for line in lines {
-        add_line(&mut book, line)?;
+        book.add(line.rule()?)?;
     }
     Ok(book)
 }

@@ -1,6 +1,7 @@
 use Rattle.std.proofs.Common.{◌≡◌, Ok, drop}
-use Rattle.host.specs.Lines.{with_lines, book_of_lines}
+use Rattle.host.specs.Lines.{book_of_lines}
 use Rattle.rulebook.specs.Rulebooks.{rules_meant}
+use Rattle.host.proofs.Adding.{with_lines}
 use Rattle.host.proofs.lines.read_rules.Given as goal
 
 abbrev pub invariant-loop-line : goal.invariant-loop-line
