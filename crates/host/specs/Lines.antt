@@ -7,13 +7,13 @@ use Rattle.licence.specs.Books.{book_of}
 use Rattle.licence.specs.Ranges.{RangeMeaning, range_of}
 use Rattle.host.specs.declared.lines.RuleLine.{RuleLine}
 
--- a class, or 255 for 'refuse'
+-- a verdict by its number: a class, or 255 for 'refuse'
 abbrev pub verdict_of : ℕ → Verdict
-verdict_of class = cond (class == 255) Refuse (Class class)
+verdict_of number = cond (number == 255) Refuse (Class number)
 
 -- the rule that a line states, or why there is none
 abbrev pub rule_of_line : RuleLine → Result RangeMeaning LicenceFault
-rule_of_line l = range_of (record { low = l.low_card; high = l.high_card }) (record { low = l.low_key; high = l.high_key }) (verdict_of l.class)
+rule_of_line l = range_of (record { low = l.low_card; high = l.high_card }) (record { low = l.low_key; high = l.high_key }) (verdict_of l.verdict)
 
 -- a line's rule before the rules of the lines behind it: the first line that states none decides
 abbrev pub with_first : Result RangeMeaning LicenceFault → Result (List RangeMeaning) LicenceFault → Result (List RangeMeaning) LicenceFault

@@ -10,7 +10,7 @@ use licence::{RangeRule, Span, Verdict};
 use refusal::LicenceFault;
 use rulebook::Rulebook;
 
-// A rule for the cards and the keys from low to high, both counted; the class is 0 to 3, or 255 for 'refuse'.
+// A rule for the cards and the keys from low to high, both counted; the verdict is a class, 0 to 3, or 255 for 'refuse'.
 #[repr(C)]
 #[derive(Clone, Copy)]
 pub struct RuleLine {
@@ -18,19 +18,19 @@ pub struct RuleLine {
     pub high_card: u16,
     pub low_key: u8,
     pub high_key: u8,
-    pub class: u8,
+    pub verdict: u8,
 }
 
-// The class that stands for 'refuse'.
+// The number that stands for 'refuse'.
 const REFUSE: u8 = 255;
 
-fn verdict_of(class: u8) -> Verdict
-    ensures { result ≡ verdict_of class }
+fn verdict_of(number: u8) -> Verdict
+    ensures { result ≡ verdict_of number }
 {
-    if class == REFUSE {
+    if number == REFUSE {
         Verdict::Refuse
     } else {
-        Verdict::Class(class)
+        Verdict::Class(number)
     }
 }
 
@@ -47,7 +47,7 @@ impl RuleLine {
             low: self.low_key,
             high: self.high_key,
         };
-        RangeRule::new(cards, keys, verdict_of(self.class))
+        RangeRule::new(cards, keys, verdict_of(self.verdict))
     }
 }
 
