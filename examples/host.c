@@ -36,11 +36,12 @@ int main(void)
     enum { MANY = 66 };
     zel_rule many[MANY];
 
-    zel_tree *tree = malloc(zel_bytes());
+    zel_tree *tree = malloc(ZEL_BYTES);
 
-    refused("begin, too small", zel_begin(tree, zel_bytes() - 1), ZEL_NO_ROOM);
-    refused("begin, no room", zel_begin(NULL, zel_bytes()), ZEL_NO_TREE);
-    granted("begin", zel_begin(tree, zel_bytes()), 0);
+    granted("bytes", zel_bytes(), ZEL_BYTES);
+    refused("begin, too small", zel_begin(tree, ZEL_BYTES - 1), ZEL_NO_ROOM);
+    refused("begin, no room", zel_begin(NULL, ZEL_BYTES), ZEL_NO_TREE);
+    granted("begin", zel_begin(tree, ZEL_BYTES), 0);
     if (wrong != 0)
         return 1;
     refused("full 0", zel_full(tree, 0, rules, 1), 1);

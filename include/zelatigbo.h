@@ -10,8 +10,13 @@
 extern "C" {
 #endif
 
-/* A tree. It lies in memory of the caller: zel_bytes() bytes, aligned to 8, as malloc gives them. */
+/* A tree. It lies in memory of the caller: zel_bytes() bytes, aligned to 8, as malloc gives them. No two calls may be on one tree at a
+   time, not even such as only read it: those that take a const zel_tree *. */
 typedef struct zel_tree zel_tree;
+
+/* What zel_bytes() answers in this version of the library, for memory of a fixed size. It belongs to this header and the library built
+   with it; zel_begin checks it: given fewer bytes than its own trees take, it is refused by ZEL_NO_ROOM. */
+#define ZEL_BYTES 19512
 
 /* A rule: floods with a key from low_key to high_key are kept with this class at the cards from low_card to high_card. */
 typedef struct zel_rule {
@@ -19,8 +24,15 @@ typedef struct zel_rule {
     uint16_t high_card;
     uint8_t low_key;
     uint8_t high_key;
-    uint8_t verdict; /* the class, 0 to 3, or ZEL_REFUSE */
+    uint8_t verdict; /* a class, 0 to 3, or ZEL_REFUSE */
 } zel_rule;
+
+/* The library reads a rule as these eight bytes. */
+#if defined(__cplusplus) && __cplusplus >= 201103L
+static_assert(sizeof(zel_rule) == 8, "a zel_rule has eight bytes");
+#elif defined(__STDC_VERSION__) && __STDC_VERSION__ >= 201112L
+_Static_assert(sizeof(zel_rule) == 8, "a zel_rule has eight bytes");
+#endif
 
 #define ZEL_REFUSE 255
 
@@ -43,12 +55,12 @@ static inline uint32_t zel_value(zel_answer answer) { return (uint32_t)answer; }
 size_t zel_bytes(void);
 
 /* Makes a tree of one card and no rules in this room of so many bytes. Refused by ZEL_NO_ROOM if they are fewer than zel_bytes(), and by
-   ZEL_NO_TREE if the pointer is null; then nothing is written. Every other call wants a tree that this call has made, and is refused by
-   ZEL_NO_TREE if the pointer to it is null. */
+   ZEL_NO_TREE if the pointer is null; then nothing is written. Each call below wants a tree that this call has made in the place where it
+   lies now, and is refused by ZEL_NO_TREE if the pointer to it is null. */
 zel_answer zel_begin(void *room, size_t bytes);
 
-/* A new full tree of 1 to 5 levels, or the tree that a table lists, with rules: two entries for each card in turn, its left and its right
-   daughter, 255 for none. What the tree held before is gone. Refused by 1, 2, 3 or 4; then the tree is as it was. */
+/* A new full tree of 1 to 5 levels, or the tree that a table lists (two entries for each card in turn, its left and its right daughter,
+   255 for none), with these rules. What the tree held before is gone. Refused by 1, 2, 3 or 4; then the tree is as it was. */
 zel_answer zel_full(zel_tree *tree, uint16_t levels, const zel_rule *rules, size_t rule_count);
 zel_answer zel_wired(zel_tree *tree, const uint8_t *table, size_t entries, const zel_rule *rules, size_t rule_count);
 
@@ -61,10 +73,10 @@ zel_answer zel_fire(zel_tree *tree, uint16_t card, uint8_t station, uint8_t inpu
 /* Removes the oldest word of a card's inbox, and grants it. */
 zel_answer zel_take(zel_tree *tree, uint16_t card);
 
-/* The hops owed. Never refused. */
+/* The hops owed. Refused only by ZEL_NO_TREE. Like zel_order it only reads, but no other call may be on the same tree meanwhile. */
 zel_answer zel_owed(const zel_tree *tree);
 
-/* The head word of a packet from the sender to these cards, by the tree's wiring. */
+/* The head word of a packet from the sender to these cards, by the tree's wiring. No other call may be on the same tree meanwhile. */
 zel_answer zel_order(const zel_tree *tree, uint16_t sender, const uint16_t *cards, size_t card_count);
 
 #ifdef __cplusplus
