@@ -1,5 +1,6 @@
 -- What a set-up answers and leaves.
 use Rattle.std.specs.Prelude.{◌≡◌, ℕ, List, [], Ok, Err, Result}
+use Rattle.refusal.specs.declared.answer.Refusal.{Refusal}
 use Rattle.refusal.specs.Refusals.{wiring_refusal, licence_refusal}
 use Rattle.refusal.specs.declared.build.WiringFault.{WiringFault}
 use Rattle.refusal.specs.declared.build.LicenceFault.{LicenceFault}
@@ -23,6 +24,13 @@ pub record Made (shape : Shape) (rules : List RangeMeaning) (tree : HostTree) : 
   pub new : means tree ≡ new_tree shape (verdicts_of rules)
   pub wiring : shape_of tree ≡ shape
   pub laws : Stands [] (means tree)
+
+-- the tree of a wiring and rules, or the refusal of one of them
+abbrev pub MadeOf : Result Shape WiringFault → Result (List RangeMeaning) LicenceFault → Result HostTree Refusal → Type 0
+MadeOf (Ok shape) (Ok rules) (Ok tree) = Made shape rules tree
+MadeOf (Ok shape) (Ok rules) (Err refusal) = ⊥
+MadeOf (Ok shape) (Err fault) answer = answer ≡ Err (licence_refusal fault)
+MadeOf (Err fault) rules answer = answer ≡ Err (wiring_refusal fault)
 
 -- a wiring and rules: the tree is new, or one of them is refused and the tree is as it was
 abbrev pub SetUp : Result Shape WiringFault → Result (List RangeMeaning) LicenceFault → HostTree → ℕ → HostTree → Type 0

@@ -1,16 +1,28 @@
 // Setting a tree up, and setting it up anew.
 ghost use Rattle.std.specs.Prelude.{◌≡◌};
 ghost use Rattle.host.specs.Lines.{book_of_lines};
-ghost use Rattle.host.specs.SetUps.{SetUp, FullSetUp, WiredSetUp, Single, shape_told};
+ghost use Rattle.host.specs.SetUps.{MadeOf, SetUp, FullSetUp, WiredSetUp, Single, shape_told};
 
 use crate::lines::{RuleLine, read_rules};
 use crate::told::refused;
 use crate::tree::HostTree;
 use planner::Cabinet;
-use refusal::{Fault, WiringFault};
+use refusal::{Refusal, WiringFault};
 use router::Tree;
 use rulebook::Rulebook;
 use wiring::{FullTree, WiredTree};
+
+// The tree of this wiring and these rules. The wiring is judged first.
+fn made(wiring: Result<Cabinet, WiringFault>, lines: &[RuleLine]) -> Result<HostTree, Refusal>
+    ensures { MadeOf (shape_told wiring) (book_of_lines lines.now) result }
+{
+    let wiring = wiring?;
+    let rules = read_rules(lines)?;
+    Ok(HostTree {
+        wiring,
+        tree: Tree::new(wiring, rules),
+    })
+}
 
 impl HostTree {
     // The tree of one card and no rules: what stands before the first set-up.
@@ -24,23 +36,16 @@ impl HostTree {
         }
     }
 
-    // A new tree of this wiring and these rules. The wiring is judged first; what is refused leaves the tree as it was.
+    // A new tree of this wiring and these rules. What is refused leaves the tree as it was.
     fn set_up(&mut self, wiring: Result<Cabinet, WiringFault>, lines: &[RuleLine]) -> u64
         ensures { SetUp (shape_told wiring) (book_of_lines lines.now) self.old result self.new }
     {
-        let wiring = match wiring {
-            Ok(wiring) => wiring,
-            Err(fault) => return refused(fault.refusal()),
-        };
-        match read_rules(lines) {
-            Ok(rules) => {
-                *self = HostTree {
-                    wiring,
-                    tree: Tree::new(wiring, rules),
-                };
+        match made(wiring, lines) {
+            Ok(tree) => {
+                *self = tree;
                 0
             }
-            Err(fault) => refused(fault.refusal()),
+            Err(refusal) => refused(refusal),
         }
     }
 
