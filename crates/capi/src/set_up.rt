@@ -1,4 +1,4 @@
-// Making a tree in memory, and setting it up.
+// Setting a tree up, and setting it up anew.
 ghost use Rattle.std.specs.Borrow.{sem};
 ghost use Rattle.host.specs.SetUps.{FullSetUp, WiredSetUp};
 ghost use Rattle.capi.specs.Memory.{given_tree, answered};
