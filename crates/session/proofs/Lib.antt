@@ -1,3 +1,4 @@
+mod Answering
 mod Halfway
 mod Padded
 mod SoFar

@@ -1,8 +1,8 @@
 -- What an input comes to, byte by byte and as a whole.
-use Rattle.std.specs.Prelude.{ℕ, List, map, Some, None, Option, Result}
+use Rattle.std.specs.Prelude.{ℕ, List, [], ◌∷◌, map, Some, None, Option, Result}
 use Rattle.command.specs.declared.command.Command.{Command}
 use Rattle.command.specs.Lines.{command_of}
-use Rattle.command.specs.Inputs.{lines_of}
+use Rattle.command.specs.Inputs.{lines_of, said_at, said_last, kept_after, followed}
 use Rattle.session.specs.declared.answer.Answer.{Answer}
 use Rattle.session.specs.declared.fault.LineFault.{LineFault}
 use Rattle.session.specs.declared.conversation.Conversation.{Conversation}
@@ -23,6 +23,11 @@ replied d (Some said) = Some (heard d said).answer
 abbrev pub desk_after : Desk → Option (Option Command) → Desk
 desk_after d None = d
 desk_after d (Some said) = (heard d said).next
+
+-- all the answers to an input that follows what is kept of a line: it is fed byte by byte, and then ended
+abbrev pub all_answered : Desk → List ℕ → List ℕ → List (Result Answer LineFault)
+all_answered d kept [] = followed (replied d (said_last kept)) []
+all_answered d kept (b ∷ bs) = followed (replied d (said_at kept b)) (all_answered (desk_after d (said_at kept b)) (kept_after kept b) bs)
 
 -- a line that ends here keeps the laws
 abbrev pub KeepsOnIf : Option (Option Command) → Desk → Desk → Type 0

@@ -1,9 +1,10 @@
 -- The calls that a session makes on its tree, and where they lead.
-use Rattle.std.specs.Prelude.{◌≡◌, List, [], ◌∷◌, ◌++◌, Some, Option, Err}
+use Rattle.std.specs.Prelude.{◌≡◌, List, [], ◌∷◌, ◌++◌, Some, Option, Err, Result}
 use Rattle.network.specs.Runs.{Call, send, fire, take, owed}
 use Rattle.router.specs.Kept.{Led, Stands}
 use Rattle.command.specs.declared.command.Command.{Command}
 use Rattle.command.specs.declared.command.Command.TheVariants.{Send, Fire, Take, Owed}
+use Rattle.session.specs.declared.answer.Answer.{Answer}
 use Rattle.session.specs.declared.fault.LineFault.{LineFault}
 use Rattle.session.specs.Desks.{Desk, running, heard}
 
@@ -39,6 +40,11 @@ KeepsOn said d d' = (calls : List Call) → CameBy calls d → StandsBy (calls +
 abbrev pub after : Desk → List (Option Command) → Desk
 after d [] = d
 after d (said ∷ more) = after (heard d said).next more
+
+-- what these lines are answered, one answer for each line, in order
+abbrev pub answers : Desk → List (Option Command) → List (Result Answer LineFault)
+answers d [] = []
+answers d (said ∷ more) = (heard d said).answer ∷ answers (heard d said).next more
 
 -- the calls that these lines make on the tree, in order
 abbrev pub calls_made : Desk → List (Option Command) → List Call

@@ -2,8 +2,8 @@
 ghost use Rattle.std.specs.Prelude.{◌≡◌, ℕ, List};
 ghost use Rattle.command.specs.Inputs.{said_at, said_last, kept_after, all_said};
 ghost use Rattle.session.specs.Desks.{waiting};
-ghost use Rattle.session.specs.Sessions.{StandsBy, after, calls_made};
-ghost use Rattle.session.specs.Conversations.{replied, desk_after, KeepsOnIf, desk_in, said_in};
+ghost use Rattle.session.specs.Sessions.{StandsBy, after, answers, calls_made};
+ghost use Rattle.session.specs.Conversations.{replied, desk_after, all_answered, KeepsOnIf, desk_in, said_in};
 
 use crate::answer::Answer;
 use crate::console::Console;
@@ -18,10 +18,12 @@ pub struct Conversation {
 }
 
 impl Conversation {
-    // Nothing is read, and the console waits for a tree.
+    // Nothing is read, and the console waits for a tree. An input that is fed to it and then ended is answered line by line, in order.
+    #[tactic(auto, using(crate::proofs::Answering::line_by_line))]
     pub fn new() -> Conversation
         ensures desk { desk_in result ≡ waiting }
         ensures lines { (input : List ℕ) → all_said result.line input ≡ said_in input }
+        ensures answers { (input : List ℕ) → all_answered (desk_in result) result.line input ≡ answers waiting (said_in input) }
     {
         Conversation {
             console: Console::new(),
