@@ -5,11 +5,11 @@ ghost use Rattle.command.specs.Sizes.{longest_line};
 ghost use Rattle.command.specs.Inputs.{lines_of, said_at, kept_after, said_last, all_said};
 
 use crate::command::Command;
-use crate::reading::read;
+use crate::reading::{LONGEST_LINE, read};
 use std::marker::Model;
 
 // One byte more than a line may have, so that a longer line is known as one.
-const ROOM: usize = 201;
+const ROOM: usize = LONGEST_LINE + 1;
 
 // The first bytes of a line whose end is not read yet.
 #[derive(Drop)]

@@ -1,10 +1,10 @@
 // A line of the console, read as a command.
-ghost use Rattle.std.specs.Prelude.{◌≡◌, ◌≤◌, IfSome, Some};
+ghost use Rattle.std.specs.Prelude.{◌≡◌, ◌+◌, ◌≤◌, IfSome, Some};
 ghost use Rattle.command.specs.declared.command.Command.{Command as Said};
 ghost use Rattle.command.specs.Says.{Spells};
 ghost use Rattle.command.specs.Written.{UsualReadBack};
 ghost use Rattle.text.specs.Fields.{fields_left};
-ghost use Rattle.command.specs.Sizes.{bytes_taken};
+ghost use Rattle.command.specs.Sizes.{bytes_taken, longest_line};
 ghost use Rattle.command.specs.Lines.{ended, tree_of, rule_of, fire_of, take_of, fields_command, command_of};
 
 use crate::command::Command;
@@ -13,6 +13,9 @@ use crate::sending::send;
 use crate::verbs::Verb;
 use licence::Span;
 use text::{Decimal, Fields, HexByte};
+
+// The most bytes of a line.
+pub(crate) const LONGEST_LINE: usize = 200;
 
 // The command, if no field is left.
 fn end(command: Command, fields: Fields) -> Option<Command>
@@ -77,7 +80,7 @@ fn take(mut fields: Fields) -> Option<Command>
 // By the first field, what the others say. On a line of 200 bytes they take 201, with the line's end counted.
 #[tactic(auto, using(crate::proofs::Taken::send_takes))]
 fn command(mut fields: Fields) -> Option<Command>
-    requires { bytes_taken (fields_left fields) ≤ 201 }
+    requires { bytes_taken (fields_left fields) ≤ longest_line + 1 }
     ensures { result ≡ fields_command (fields_left fields.entry) }
 {
     match fields.read::<Verb>()? {
@@ -99,7 +102,7 @@ pub fn read(line: &[u8]) -> Option<Command>
     ensures complete { (c : Said) → Spells line.now c → result ≡ Some c }
     ensures back { UsualReadBack }
 {
-    if line.len() > 200 {
+    if line.len() > LONGEST_LINE {
         None
     } else {
         command(Fields::new(line))
