@@ -29,9 +29,10 @@ impl Model for LineBuffer {
 
 impl LineBuffer {
     // An input that is fed to it byte by byte makes the commands of its lines, in order.
+    #[tactic(auto, using(crate::proofs::Feeding::input_said))]
     pub fn new() -> LineBuffer
         ensures empty { result ≡ [] }
-        ensures lines { (input : List ℕ) → all_said [] input ≡ map command_of (lines_of input) }
+        ensures lines { (input : List ℕ) → all_said result input ≡ map command_of (lines_of input) }
     {
         LineBuffer {
             bytes: [0; ROOM],
@@ -48,9 +49,17 @@ impl LineBuffer {
             self.keep(byte);
             return None;
         }
+        Some(self.close())
+    }
+
+    // The command of the line that is kept, or that it is none. Nothing is kept afterwards.
+    fn close(&mut self) -> Option<Command>
+        ensures said { result ≡ command_of self.old }
+        ensures empty { self.new ≡ [] }
+    {
         let command = read(&self.bytes[..self.count]);
         self.count = 0;
-        Some(command)
+        command
     }
 
     // Keeps one byte more, if there is room.
@@ -64,14 +73,15 @@ impl LineBuffer {
         }
     }
 
-    // At the end of the input, the command of a last line without a newline, or that it is none.
-    pub fn last(&self) -> Option<Option<Command>>
-        ensures { result ≡ said_last self.now }
+    // At the end of the input, the command of a last line without a newline, or that it is none. Nothing is kept afterwards.
+    pub fn last(&mut self) -> Option<Option<Command>>
+        ensures said { result ≡ said_last self.old }
+        ensures empty { self.new ≡ [] }
     {
         if self.count == 0 {
             None
         } else {
-            Some(read(&self.bytes[..self.count]))
+            Some(self.close())
         }
     }
 }

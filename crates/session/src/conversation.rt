@@ -1,5 +1,5 @@
 // The console and its lines: an input is fed byte by byte, and each line is answered as it ends.
-ghost use Rattle.std.specs.Prelude.{◌≡◌, ℕ, List};
+ghost use Rattle.std.specs.Prelude.{◌≡◌, ℕ, List, []};
 ghost use Rattle.command.specs.Inputs.{said_at, said_last, kept_after, all_said};
 ghost use Rattle.session.specs.Desks.{waiting};
 ghost use Rattle.session.specs.Sessions.{StandsBy, after, answers, calls_made};
@@ -42,11 +42,11 @@ impl Conversation {
         Some(self.console.hear(&said))
     }
 
-    // At the end of the input: a last line without a newline is answered.
+    // At the end of the input: a last line without a newline is answered. Nothing is kept of it.
     pub fn end(&mut self) -> Option<Result<Answer, LineFault>>
         ensures answer { result ≡ replied (desk_in self.old) (said_last self.old.line) }
         ensures next { desk_in self.new ≡ desk_after (desk_in self.old) (said_last self.old.line) }
-        ensures line { self.new.line ≡ self.old.line }
+        ensures line { self.new.line ≡ [] }
         ensures laws { KeepsOnIf (said_last self.old.line) (desk_in self.old) (desk_in self.new) }
     {
         let said = self.line.last()?;
