@@ -80,4 +80,4 @@ obeyed (running m) command = let o = called m command in record { next = running
 -- what a line comes to, by the command that it says; a line that says none is not understood
 abbrev pub heard : Desk → Option Command → Outcome Desk
 heard d (Some command) = obeyed d command
-heard d None = misplaced d
+heard d None = refused d NotUnderstood
