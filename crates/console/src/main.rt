@@ -5,18 +5,18 @@ use session::{Answer, Conversation, LineFault, Reply};
 use std::io;
 use std::io::{BufRead, BufReader, BufWriter, IsTerminal, Write};
 
-const HELP: &str =
-    "tree LEVELS; then rule LOW HIGH LOW HIGH CLASS, or none; then go; then send, fire, take, owed";
+const HELP: &str = "tree LEVELS; then rule LOW HIGH LOWKEY HIGHKEY CLASS (or n), or none; then go; \
+    then send CARD T|F ROUTE KEY WORDS, fire CARD u|d l|r|q|p|t, take CARD, owed";
 
 // The lines of a host or a person: where the answers go, and where the words for a person, if one types.
 #[derive(Drop)]
-struct Desk<O, E> {
+struct Terminal<O, E> {
     conversation: Conversation,
     out: O,
     aside: Option<E>,
 }
 
-impl<O: Write, E: Write> Desk<O, E> {
+impl<O: Write, E: Write> Terminal<O, E> {
     // Takes the bytes that came, and writes the answer of each line that they end.
     fn feed(&mut self, bytes: &[u8]) -> io::Result<()> {
         for byte in bytes {
@@ -35,12 +35,12 @@ impl<O: Write, E: Write> Desk<O, E> {
         self.out.flush()
     }
 
-    // Writes one line, and for a person what is wrong.
+    // Writes one line, and for a person what is wrong. That these words cannot be written ends nothing.
     fn write(&mut self, answer: Result<Answer, LineFault>) -> io::Result<()> {
         writeln!(self.out, "{}", Reply(answer))?;
         if let (Some(aside), Err(fault)) = (&mut self.aside, answer) {
             self.out.flush()?;
-            writeln!(aside, "{fault}")?;
+            let _ = writeln!(aside, "{fault}");
         }
         Ok(())
     }
@@ -52,10 +52,10 @@ fn main(rt: HostRuntime) -> io::Result<()> {
     let mut aside = None;
     if stdin.is_terminal() {
         let mut stderr = rt.stderr();
-        writeln!(stderr, "{HELP}")?;
+        let _ = writeln!(stderr, "{HELP}");
         aside = Some(stderr);
     }
-    let mut desk = Desk {
+    let mut terminal = Terminal {
         conversation: Conversation::new(),
         out: BufWriter::new(heap, rt.stdout())?,
         aside,
@@ -68,8 +68,8 @@ fn main(rt: HostRuntime) -> io::Result<()> {
         if count == 0 {
             break;
         }
-        desk.feed(bytes)?;
+        terminal.feed(bytes)?;
         input.consume(count);
     }
-    desk.end()
+    terminal.end()
 }
