@@ -13,7 +13,7 @@ pub enum Command {
     Tree {
         levels: u16,
     },
-    // No class stands for 'refuse'.
+    // The class `None` is 'refuse'.
     Rule {
         cards: Span<u16>,
         keys: Span<u8>,
