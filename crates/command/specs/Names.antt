@@ -9,6 +9,7 @@ use Rattle.station.specs.declared.hold.Station.TheVariants.{Up, Down}
 use Rattle.station.specs.declared.hold.Input.{Input}
 use Rattle.station.specs.declared.hold.Input.TheVariants.{Left, Right, Queue, Parent, Turn}
 use Rattle.text.specs.Number.{decimal_of, hex_word_of}
+use Rattle.command.specs.Sizes.{most_free}
 
 -- T targets, F floods
 abbrev pub mode_named : List ℕ → Option Mode
@@ -34,7 +35,7 @@ class_of f = cond (bytes_eq f (codes "n")) (Some None) (option_map Some (decimal
 
 -- a number of 30 bits, the free bits of a word
 abbrev pub free_bits : ℕ → Option ℕ
-free_bits n = cond (nat_le n 0x3fffffff) (Some n) None
+free_bits n = cond (nat_le n most_free) (Some n) None
 
 -- one to eight hexadecimal digits, at most 3fffffff
 abbrev pub free_word_of : List ℕ → Option ℕ

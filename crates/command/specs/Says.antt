@@ -13,7 +13,7 @@ use Rattle.command.specs.declared.command.Command.{Command}
 use Rattle.command.specs.declared.command.Command.TheVariants.{Tree, Rule, Go, Send, Fire, Take, Owed}
 use Rattle.command.specs.Letters.{SaysRoute}
 use Rattle.command.specs.Packets.{packet_of}
-use Rattle.command.specs.Sizes.{longest_line}
+use Rattle.command.specs.Sizes.{longest_line, most_free}
 
 -- how a mode, a station and an input are written
 abbrev pub mode_letter : Mode → List ℕ
@@ -38,7 +38,7 @@ SaysClass f (Some v) = decimal_of f ≡ Some v
 
 -- a word has 30 free bits
 abbrev pub SaysWord : List ℕ → ℕ → Type 0
-SaysWord f w = (hex_word_of f ≡ Some w) × (w ≤ 0x3fffffff)
+SaysWord f w = (hex_word_of f ≡ Some w) × (w ≤ most_free)
 
 -- these fields say this command
 pub data Says : List (List ℕ) → Command → Type 0 where

@@ -8,7 +8,7 @@ use Rattle.text.specs.Spelled.{decimal_text, hex_text, byte_text}
 use Rattle.command.specs.declared.command.Command.{Command}
 use Rattle.command.specs.declared.command.Command.TheVariants.{Tree, Rule, Go, Send, Fire, Take, Owed}
 use Rattle.command.specs.Packets.{packet_of}
-use Rattle.command.specs.Sizes.{longest_line}
+use Rattle.command.specs.Sizes.{longest_line, most_free}
 use Rattle.command.specs.Lines.{command_of}
 use Rattle.command.specs.Says.{mode_letter, station_letter, input_letter}
 
@@ -31,7 +31,7 @@ pub data Usual : List (List ℕ) → Command → Type 0 where
       Usual (codes "rule" ∷ decimal_text low ∷ decimal_text high ∷ byte_text false low_key ∷ byte_text false high_key ∷ class_text class ∷ [])
       (Rule (record { low = low; high = high }) (record { low = low_key; high = high_key }) class)
   usual_go : Usual (codes "go" ∷ []) Go
-  usual_send : (card : ℕ) (mode : Mode) (route key : ℕ) (words : List ℕ) → card < 1000 → route < 2 ^ 9 → key < 2 ^ 8 → AllByRecursion (λ w. w ≤ 0x3fffffff) words →
+  usual_send : (card : ℕ) (mode : Mode) (route key : ℕ) (words : List ℕ) → card < 1000 → route < 2 ^ 9 → key < 2 ^ 8 → AllByRecursion (λ w. w ≤ most_free) words →
       Usual (codes "send" ∷ decimal_text card ∷ mode_letter mode ∷ route_text route ∷ byte_text false key ∷ map (hex_text false) words)
       (Send card (record { items = packet_of mode route key words }))
   usual_fire : (card : ℕ) (station : Station) (input : Input) → card < 1000 →

@@ -80,6 +80,9 @@ impl Spelling for Class {
     }
 }
 
+// The most that the 30 free bits of a word hold.
+const MOST_FREE: u32 = 0x3fff_ffff;
+
 // The 30 free bits of a word.
 #[derive(Clone, Copy)]
 pub struct FreeWord;
@@ -91,10 +94,6 @@ impl Spelling for FreeWord {
 
     fn read(field: &[u8]) -> Option<u32> {
         let word = hex_word(field)?;
-        if word <= 0x3fff_ffff {
-            Some(word)
-        } else {
-            None
-        }
+        if word <= MOST_FREE { Some(word) } else { None }
     }
 }
