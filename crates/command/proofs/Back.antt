@@ -1,5 +1,5 @@
--- A command that is written as usual is read back.
-use Rattle.std.proofs.Common.{◌≡◌, ◌≢◌, ℕ, zero, suc, ◌/◌, ◌%◌, ◌^◌, ◌<◌, ◌≤◌, Bool, true, false, cond, eqb, List, [], ◌∷◌, All, length, map, IfSome, Some, None, Option, codes, refl, subst, ap, mod-lt, arith}
+-- A command in its plain writing is read back.
+use Rattle.std.proofs.Common.{◌≡◌, ℕ, ◌^◌, ◌<◌, ◌≤◌, Bool, true, false, List, [], ◌∷◌, All, length, map, IfSome, Some, None, Option, codes, refl, subst, arith}
 use Rattle.std.specs.List.{AllByRecursion, AllZip, join_with_byte}
 use Rattle.std.proofs.lemmas.List.Elements.{All-head, All-from_recursion}
 use Rattle.packet.specs.declared.heads.Mode.{Mode}
@@ -8,18 +8,18 @@ use Rattle.station.specs.declared.hold.Station.{Station}
 use Rattle.station.specs.declared.hold.Station.TheVariants.{Up, Down}
 use Rattle.station.specs.declared.hold.Input.{Input}
 use Rattle.station.specs.declared.hold.Input.TheVariants.{Left, Right, Queue, Parent, Turn}
+use Rattle.packet.specs.Routes.{bits_from, route_bits}
 use Rattle.text.specs.Fields.{fields_of}
 use Rattle.text.specs.Parted.{NoSpace}
 use Rattle.text.specs.Spelled.{hex_text}
 use Rattle.text.proofs.Parting.{NotSpace, parted_fields}
 use Rattle.text.proofs.ReadBack.{decimal_back, hex_byte_back, hex_word_back}
 use Rattle.command.specs.declared.command.Command.{Command}
-use Rattle.command.specs.Letters.{letter_bit, route_of}
+use Rattle.command.specs.Letters.{SaysBits, SaysRoute}
 use Rattle.command.specs.Says.{SaysClass, SaysWord, mode_letter, station_letter, input_letter, Says}
 use Rattle.command.specs.Says.Says.{says_tree, says_rule, says_go, says_send, says_fire, says_take, says_owed}
-use Rattle.command.specs.Written.{bit_letter, route_text, class_text, Usual, UsualReadBack}
-use Rattle.command.specs.Written.Usual.{usual_tree, usual_rule, usual_go, usual_send, usual_fire, usual_take, usual_owed}
-use Rattle.command.proofs.RouteBits.{read_says_route}
+use Rattle.command.specs.Written.{bit_letter, route_text, class_text, Plain, PlainReadBack}
+use Rattle.command.specs.Written.Plain.{plain_tree, plain_rule, plain_go, plain_send, plain_fire, plain_take, plain_owed}
 use Rattle.command.proofs.Saying.{spelled_read}
 
 -- a text that is one field has no space
@@ -41,28 +41,23 @@ input_whole Queue = one_field (codes "q") refl
 input_whole Parent = one_field (codes "p") refl
 input_whole Turn = one_field (codes "t") refl
 
--- a route letter is a bit and no space
-letter_back : (d : ℕ) → d < 2 → letter_bit (bit_letter d) ≡ Some d
-letter_back zero h = refl
-letter_back (suc zero) h = refl
-letter_back (suc (suc d)) h = absurd (omega arith)
+-- the letters of bits say these bits, and are no spaces
+letters_say : (ds : List Bool) → SaysBits (map bit_letter ds) ds
+letters_say [] = tt
+letters_say (true ∷ ds) = (refl, letters_say ds)
+letters_say (false ∷ ds) = (refl, letters_say ds)
 
-letter_whole : (d : ℕ) → bit_letter d ≢ 32
-letter_whole d = either (eqb d 1)
-  where
-    either : (b : Bool) → ◌≢◌ {A = ℕ} (cond b 83 68) 32
-    either true e = omega arith
-    either false e = omega arith
+letters_whole : (ds : List Bool) → AllByRecursion NotSpace (map bit_letter ds)
+letters_whole [] = tt
+letters_whole (true ∷ ds) = (omega arith, letters_whole ds)
+letters_whole (false ∷ ds) = (omega arith, letters_whole ds)
 
-route_back : (r : ℕ) → r < 2 ^ 9 → route_of (route_text r) ≡ Some r
-route_back r h =
-    let back : (n : ℕ) → letter_bit (bit_letter (n % 2)) ≡ Some (n % 2) = λ n. letter_back (n % 2) (mod-lt n (omega arith)) in
-    rw (back (r / 2 ^ 8), back (r / 2 ^ 7), back (r / 2 ^ 6), back (r / 2 ^ 5), back (r / 2 ^ 4), back (r / 2 ^ 3), back (r / 2 ^ 2), back (r / 2 ^ 1), back (r / 2 ^ 0))
-    (ap Some (omega arith))
+route_says : (r : ℕ) → r < 2 ^ 9 → SaysRoute (route_text r) r
+unfolding route_bits bits_from
+route_says r h = record { some = omega arith; narrow = h; bits = letters_say (route_bits r) }
 
 route_whole : (r : ℕ) → NoSpace (route_text r)
-route_whole r = All-from_recursion NotSpace (route_text r)
-    (letter_whole _, (letter_whole _, (letter_whole _, (letter_whole _, (letter_whole _, (letter_whole _, (letter_whole _, (letter_whole _, (letter_whole _, tt)))))))))
+route_whole r = All-from_recursion NotSpace (route_text r) (letters_whole (route_bits r))
 
 class_says : (v : Option ℕ) → IfSome v (λ n. n < 1000) → SaysClass (class_text v) v
 class_says None h = refl
@@ -80,28 +75,28 @@ words_whole : (ws : List ℕ) → AllByRecursion (λ w. w ≤ 0x3fffffff) ws →
 words_whole [] h = tt
 words_whole (w ∷ ws) h = ((hex_word_back false w (omega (arith, h.0))).0, words_whole ws h.1)
 
-says : (fs : List (List ℕ)) (c : Command) → Usual fs c → Says fs c
-says _ _ (usual_tree l h) = says_tree _ l (decimal_back l h).1
-says _ _ (usual_rule a b j k v ha hb hj hk hv) = says_rule _ _ _ _ _ a b j k v (decimal_back a ha).1 (decimal_back b hb).1 (hex_byte_back false j hj).1 (hex_byte_back false k hk).1 (class_says v hv)
-says _ _ usual_go = says_go
-says _ _ (usual_send c m r k ws hc hr hk hw) = says_send _ _ _ _ c m r k ws (decimal_back c hc).1 (read_says_route _ r (route_back r hr)) (hex_byte_back false k hk).1 (words_say ws hw)
-says _ _ (usual_fire c s i h) = says_fire _ c s i (decimal_back c h).1
-says _ _ (usual_take c h) = says_take _ c (decimal_back c h).1
-says _ _ usual_owed = says_owed
+says : (fs : List (List ℕ)) (c : Command) → Plain fs c → Says fs c
+says _ _ (plain_tree l h) = says_tree _ l (decimal_back l h).1
+says _ _ (plain_rule a b j k v ha hb hj hk hv) = says_rule _ _ _ _ _ a b j k v (decimal_back a ha).1 (decimal_back b hb).1 (hex_byte_back false j hj).1 (hex_byte_back false k hk).1 (class_says v hv)
+says _ _ plain_go = says_go
+says _ _ (plain_send c m r k ws hc hr hk hw) = says_send _ _ _ _ c m r k ws (decimal_back c hc).1 (route_says r hr) (hex_byte_back false k hk).1 (words_say ws hw)
+says _ _ (plain_fire c s i h) = says_fire _ c s i (decimal_back c h).1
+says _ _ (plain_take c h) = says_take _ c (decimal_back c h).1
+says _ _ plain_owed = says_owed
 
-whole : (fs : List (List ℕ)) (c : Command) → Usual fs c → (0 < length fs) × AllByRecursion NoSpace fs
-whole _ _ (usual_tree l h) = (omega arith, (one_field (codes "tree") refl, ((decimal_back l h).0, tt)))
-whole _ _ (usual_rule a b j k v ha hb hj hk hv) =
+whole : (fs : List (List ℕ)) (c : Command) → Plain fs c → (0 < length fs) × AllByRecursion NoSpace fs
+whole _ _ (plain_tree l h) = (omega arith, (one_field (codes "tree") refl, ((decimal_back l h).0, tt)))
+whole _ _ (plain_rule a b j k v ha hb hj hk hv) =
     (omega arith, (one_field (codes "rule") refl, ((decimal_back a ha).0, ((decimal_back b hb).0, ((hex_byte_back false j hj).0, ((hex_byte_back false k hk).0, (class_whole v hv, tt)))))))
-whole _ _ usual_go = (omega arith, (one_field (codes "go") refl, tt))
-whole _ _ (usual_send c m r k ws hc hr hk hw) =
+whole _ _ plain_go = (omega arith, (one_field (codes "go") refl, tt))
+whole _ _ (plain_send c m r k ws hc hr hk hw) =
     (omega arith, (one_field (codes "send") refl, ((decimal_back c hc).0, (mode_whole m, (route_whole r, ((hex_byte_back false k hk).0, words_whole ws hw))))))
-whole _ _ (usual_fire c s i h) = (omega arith, (one_field (codes "fire") refl, ((decimal_back c h).0, (station_whole s, (input_whole i, tt)))))
-whole _ _ (usual_take c h) = (omega arith, (one_field (codes "take") refl, ((decimal_back c h).0, tt)))
-whole _ _ usual_owed = (omega arith, (one_field (codes "owed") refl, tt))
+whole _ _ (plain_fire c s i h) = (omega arith, (one_field (codes "fire") refl, ((decimal_back c h).0, (station_whole s, (input_whole i, tt)))))
+whole _ _ (plain_take c h) = (omega arith, (one_field (codes "take") refl, ((decimal_back c h).0, tt)))
+whole _ _ plain_owed = (omega arith, (one_field (codes "owed") refl, tt))
 
-pub usual_read : UsualReadBack
-usual_read fs c u short =
+pub plain_read : PlainReadBack
+plain_read fs c u short =
     let w = whole fs c u in
     spelled_read (join_with_byte 32 fs) c (record {
       short = short;
