@@ -6,3 +6,4 @@ pub mod Saying
 pub mod Sound
 pub mod Feeding
 pub mod Back
+pub mod Courses

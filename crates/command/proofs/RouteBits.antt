@@ -21,7 +21,7 @@ bit_back (suc zero) h = refl
 bit_back (suc (suc d)) h = absurd (omega arith)
 
 -- powers of two
-half : (k : ℕ) → 2 ^ suc k / 2 ≡ 2 ^ k
+pub half : (k : ℕ) → 2 ^ suc k / 2 ≡ 2 ^ k
 half k = omega (arith, two-pow-succ k)
 
 spread : (n d k : ℕ) → n * 2 ^ suc k + d * 2 ^ k ≡ (n + n + d) * 2 ^ k

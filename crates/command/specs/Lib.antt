@@ -7,3 +7,4 @@ pub mod Lines
 pub mod Says
 pub mod Inputs
 pub mod Written
+pub mod Courses

@@ -3,6 +3,7 @@ ghost use Rattle.std.specs.Prelude.{◌≡◌, ◌+◌, ◌≤◌, IfSome, Some}
 ghost use Rattle.command.specs.declared.command.Command.{Command as Said};
 ghost use Rattle.command.specs.Says.{Spells};
 ghost use Rattle.command.specs.Written.{PlainReadBack};
+ghost use Rattle.command.specs.Courses.{CoursesReadBack};
 ghost use Rattle.text.specs.Fields.{fields_left};
 ghost use Rattle.command.specs.Sizes.{bytes_taken, longest_line};
 ghost use Rattle.command.specs.Lines.{ended, tree_of, rule_of, fire_of, take_of, fields_command, command_of};
@@ -95,12 +96,13 @@ fn command(mut fields: Fields) -> Option<Command>
 }
 
 // The command of a line, or none where the line is not understood or has more than 200 bytes.
-#[tactic(auto, using(crate::proofs::Taken::line_takes, crate::proofs::Back::plain_read))]
+#[tactic(auto, using(crate::proofs::Taken::line_takes, crate::proofs::Back::plain_read, crate::proofs::Courses::courses_read))]
 pub fn read(line: &[u8]) -> Option<Command>
     ensures value { result ≡ command_of line.now }
     ensures sound { IfSome result (Spells line.now) }
     ensures complete { (c : Said) → Spells line.now c → result ≡ Some c }
     ensures back { PlainReadBack }
+    ensures courses { CoursesReadBack }
 {
     if line.len() > LONGEST_LINE {
         None
