@@ -82,8 +82,19 @@ fn body(dice: &mut Dice) -> u32 {
     }
 }
 
-// Keys are few, so that rules and withdrawals meet them.
-pub const KEYS: u32 = 24;
+// Most keys are of few, so that rules and withdrawals meet them; one in four is any byte.
+pub(crate) fn key(dice: &mut Dice) -> u8 {
+    some_byte(dice, 24)
+}
+
+// A number below a limit, and one time in four any byte.
+pub(crate) fn some_byte(dice: &mut Dice, limit: u32) -> u8 {
+    if dice.one_in(4) {
+        dice.byte()
+    } else {
+        (dice.below(limit) & 0xff) as u8
+    }
+}
 
 // A packet of this many words by a way that there is. It may be queued, if its length is right and the queue has room.
 fn packet_of(
@@ -99,7 +110,7 @@ fn packet_of(
     for place in 0..length {
         packet.push(match place {
             0 => HEAD | mode | route,
-            1 => dice.below(KEYS),
+            1 => u32::from(key(dice)),
             _ => body(dice),
         })?;
     }

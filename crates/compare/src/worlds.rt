@@ -1,6 +1,6 @@
 // A wiring and a policy at random, as both sides take them.
 use crate::dice::Dice;
-use crate::packets::KEYS;
+use crate::packets::{key, some_byte};
 use crate::sim::{Licences, Rule, Scope};
 use std::alloc::{AllocError, Global};
 
@@ -67,18 +67,16 @@ fn class(dice: &mut Dice) -> Option<u8> {
     }
 }
 
-// A span of bytes that mostly meets the numbers below a limit.
-fn span(dice: &mut Dice, limit: u32) -> (u8, u8) {
-    let low = dice.below(limit);
-    let high = dice.between(low, limit);
-    ((low & 0xff) as u8, (high & 0xff) as u8)
+// From the lower of two numbers to the higher.
+fn span(one: u8, other: u8) -> (u8, u8) {
+    (one.min(other), one.max(other))
 }
 
 fn range(dice: &mut Dice) -> Scope {
-    let (first, last) = span(dice, 31);
+    let (first, last) = span(some_byte(dice, 32), some_byte(dice, 32));
     Scope::Range {
         cards: (u16::from(first), u16::from(last)),
-        keys: span(dice, KEYS),
+        keys: span(key(dice), key(dice)),
     }
 }
 
@@ -109,7 +107,7 @@ fn licences(heap: Global, dice: &mut Dice, patterns: bool) -> Result<Licences, A
     for _ in 0..dice.below(3) {
         let mut keys = Vec::new(heap);
         for _ in 0..dice.between(1, 6) {
-            keys.push((dice.below(KEYS) & 0xff) as u8)?;
+            keys.push(key(dice))?;
         }
         layers.push(keys)?;
     }
