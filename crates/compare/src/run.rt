@@ -51,6 +51,9 @@ impl<W: Wiring + Drop, P: Policy + Drop> Run<W, P> {
         if owed != self.books.owed() {
             return Err(self.broken("hops owed and fires are not the path hops"));
         }
+        if self.model.has_stray() {
+            return Err(self.broken("a word that no rule lets pass"));
+        }
         if owed > 0 && !self.model.can_go_on() {
             return Err(self.broken("hops are owed, and no fire waits for less than an inbox"));
         }

@@ -73,7 +73,8 @@ impl Passage {
 }
 
 impl Simulator {
-    // May the word that waits at an input pass, and how?
+    // May the word that waits at an input pass, and how? That a head waits at a free station, and a later word at its packet's, is for
+    // `has_stray` to say.
     pub(crate) fn may_fire(
         &self,
         card: u16,
@@ -82,12 +83,9 @@ impl Simulator {
     ) -> Result<Passage, No> {
         let word = self.waiting(card, station, input)?;
         let passage = match self.held(card, station) {
-            None if words::is_head(word) => self.head(card, station, input, word),
-            Some(held) if held.input == input && !words::is_head(word) => {
-                self.later(card, held, word)
-            }
-            Some(held) if held.input != input => return Err(No::plain(15)),
-            _ => return Err(No::plain(14)),
+            None => self.head(card, station, input, word),
+            Some(held) if held.input == input => self.later(card, held, word),
+            Some(_) => return Err(No::plain(15)),
         };
         if self.is_blocked(card, passage.outputs) {
             return Err(No::plain(16));
