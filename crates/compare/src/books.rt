@@ -96,9 +96,9 @@ impl Books {
         Ok(())
     }
 
-    // The hops that must be owed.
-    pub(crate) fn owed(&self) -> u64 {
-        self.path_hops.saturating_sub(self.fires)
+    // Are these hops owed, with the fires, the path hops?
+    pub(crate) fn balance(&self, owed: u64) -> bool {
+        owed.saturating_add(self.fires) == self.path_hops
     }
 
     // At quiet: are each card's words its due arrivals, whole, each list as often as it is due?

@@ -48,7 +48,7 @@ impl<W: Wiring + Drop, P: Policy + Drop> Run<W, P> {
         if kept != owed {
             return Err(self.difference(call, Answer::Hops(kept), Answer::Hops(owed)));
         }
-        if owed != self.books.owed() {
+        if !self.books.balance(owed) {
             return Err(self.broken("hops owed and fires are not the path hops"));
         }
         if self.model.has_stray() {
