@@ -13,7 +13,7 @@ pub struct Kinds {
     two_layers: u64,
 }
 
-fn add(count: &mut u64, by: u64) {
+pub(crate) fn add(count: &mut u64, by: u64) {
     *count = count.saturating_add(by);
 }
 

@@ -1,6 +1,6 @@
 // What the runs have met, as it is printed.
 use crate::calls::{Answer, Call};
-use crate::kinds::Kinds;
+use crate::kinds::{Kinds, add};
 use std::fmt;
 
 // Calls made and calls granted, of one kind.
@@ -27,21 +27,17 @@ pub struct Tally {
     most_owed: u64,
 }
 
-fn more(count: &mut u64, by: u64) {
-    *count = count.saturating_add(by);
-}
-
 impl Count {
     fn call(&mut self, answer: Answer) {
-        more(&mut self.made, 1);
+        add(&mut self.made, 1);
         if !matches!(answer, Answer::Refused { .. }) {
-            more(&mut self.granted, 1);
+            add(&mut self.granted, 1);
         }
     }
 
     fn join(&mut self, other: Count) {
-        more(&mut self.made, other.made);
-        more(&mut self.granted, other.granted);
+        add(&mut self.made, other.made);
+        add(&mut self.granted, other.granted);
     }
 }
 
@@ -80,7 +76,7 @@ impl Tally {
         }
         if let Answer::Refused { number, .. } = answer {
             if let Some(count) = self.refusals.get_mut(usize::from(number)) {
-                more(count, 1);
+                add(count, 1);
             }
         }
     }
@@ -88,9 +84,9 @@ impl Tally {
     // The mode of a packet that is queued.
     pub(crate) fn mode(&mut self, floods: bool) {
         if floods {
-            more(&mut self.floods, 1);
+            add(&mut self.floods, 1);
         } else {
-            more(&mut self.targets, 1);
+            add(&mut self.targets, 1);
         }
     }
 
@@ -102,16 +98,16 @@ impl Tally {
     }
 
     pub(crate) fn join(&mut self, other: &Tally) {
-        more(&mut self.runs, other.runs);
+        add(&mut self.runs, other.runs);
         self.kinds.join(other.kinds);
         self.sends.join(other.sends);
         self.fires.join(other.fires);
         self.takes.join(other.takes);
         self.owed.join(other.owed);
-        more(&mut self.floods, other.floods);
-        more(&mut self.targets, other.targets);
+        add(&mut self.floods, other.floods);
+        add(&mut self.targets, other.targets);
         for (count, by) in self.refusals.iter_mut().zip(other.refusals.iter()) {
-            more(count, *by);
+            add(count, *by);
         }
         self.deepest_queue = self.deepest_queue.max(other.deepest_queue);
         self.fullest_inbox = self.fullest_inbox.max(other.fullest_inbox);

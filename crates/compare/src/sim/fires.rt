@@ -20,20 +20,17 @@ impl Simulator {
     // Takes the word from its input.
     fn remove(&mut self, card: u16, input: Input) {
         let daughters = self.family.daughters(card);
+        let Some(here) = self.cards.get_mut(usize::from(card)) else {
+            return;
+        };
         match input {
             Input::Left => self.clear_up_link(daughters.left),
             Input::Right => self.clear_up_link(daughters.right),
-            Input::Queue | Input::Parent | Input::Turn => {
-                if let Some(here) = self.cards.get_mut(usize::from(card)) {
-                    match input {
-                        Input::Parent => here.down_link = None,
-                        Input::Turn => here.turn_link = None,
-                        _ => {
-                            here.queue.pop_front();
-                        }
-                    }
-                }
+            Input::Queue => {
+                here.queue.pop_front();
             }
+            Input::Parent => here.down_link = None,
+            Input::Turn => here.turn_link = None,
         }
     }
 
