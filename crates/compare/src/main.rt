@@ -21,6 +21,7 @@ use directed::edge;
 use play::play_world;
 use std::alloc::Global;
 use std::io;
+use std::process::ExitCode;
 use tallies::Tally;
 use troubles::Trouble;
 
@@ -35,9 +36,16 @@ fn compare_all(heap: Global) -> Result<Tally, Trouble> {
     Ok(all)
 }
 
-fn main(rt: HostRuntime) -> io::Result<()> {
+// Ends with a status that is not 0 where the sides differ.
+fn main(rt: HostRuntime) -> io::Result<ExitCode> {
     match compare_all(rt.alloc()) {
-        Ok(tally) => println!(rt; "{tally}\nall equal"),
-        Err(trouble) => println!(rt; "{trouble}"),
+        Ok(tally) => {
+            println!(rt; "{tally}\nall equal")?;
+            Ok(ExitCode::SUCCESS)
+        }
+        Err(trouble) => {
+            println!(rt; "{trouble}")?;
+            Ok(ExitCode::FAILURE)
+        }
     }
 }
