@@ -6,6 +6,7 @@ use std::fmt;
 pub struct Kinds {
     full: u64,
     wired: u64,
+    one_card: u64,
     ranges: u64,
     patterns: u64,
     empty: u64,
@@ -24,6 +25,7 @@ impl Kinds {
         Kinds {
             full: u64::from(world.levels.is_some()),
             wired: u64::from(world.levels.is_none()),
+            one_card: u64::from(world.table.len() == 2),
             ranges: u64::from(!world.patterns),
             patterns: u64::from(world.patterns),
             empty: u64::from(world.licences.rules.is_empty()),
@@ -35,6 +37,7 @@ impl Kinds {
     pub(crate) fn join(&mut self, other: Kinds) {
         add(&mut self.full, other.full);
         add(&mut self.wired, other.wired);
+        add(&mut self.one_card, other.one_card);
         add(&mut self.ranges, other.ranges);
         add(&mut self.patterns, other.patterns);
         add(&mut self.empty, other.empty);
@@ -47,8 +50,8 @@ impl fmt::Display for Kinds {
     fn fmt<W: fmt::Write>(&self, f: &mut fmt::Formatter<W>) -> fmt::Result {
         writeln!(
             f,
-            "wirings: full trees {}, tables {}",
-            self.full, self.wired
+            "wirings: full trees {}, tables {}, of one card among them {}",
+            self.full, self.wired, self.one_card
         )?;
         writeln!(
             f,

@@ -140,6 +140,7 @@ pub(crate) fn bad_packet(
 ) -> Result<Vec<u32>, AllocError> {
     let length = match dice.below(8) {
         0 => dice.below(2),
+        1 if dice.one_in(4) => dice.between(71, 400),
         1 => dice.between(65, 70),
         _ => length(dice),
     };

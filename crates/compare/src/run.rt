@@ -143,7 +143,7 @@ impl<W: Wiring + Drop, P: Policy + Drop> Run<W, P> {
         self.tally.call(call, answer);
         if let (Call::Send { packet, .. }, Answer::Queued) = (call, answer) {
             if let Some(head) = packet.first() {
-                self.tally.mode(words::floods(*head));
+                self.tally.queued(words::floods(*head), packet.len());
             }
         }
         for card in &self.model.cards {

@@ -20,6 +20,7 @@ pub struct Tally {
     owed: Count,
     floods: u64,
     targets: u64,
+    longest_packet: u64,
     // By their numbers.
     refusals: [u64; 19],
     deepest_queue: u64,
@@ -59,6 +60,7 @@ impl Tally {
             owed: Count::default(),
             floods: 0,
             targets: 0,
+            longest_packet: 0,
             refusals: [0; 19],
             deepest_queue: 0,
             fullest_inbox: 0,
@@ -81,8 +83,9 @@ impl Tally {
         }
     }
 
-    // The mode of a packet that is queued.
-    pub(crate) fn mode(&mut self, floods: bool) {
+    // The mode and the length of a packet that is queued.
+    pub(crate) fn queued(&mut self, floods: bool, words: usize) {
+        self.longest_packet = self.longest_packet.max(words as u64);
         if floods {
             add(&mut self.floods, 1);
         } else {
@@ -109,6 +112,7 @@ impl Tally {
         for (count, by) in self.refusals.iter_mut().zip(other.refusals.iter()) {
             add(count, *by);
         }
+        self.longest_packet = self.longest_packet.max(other.longest_packet);
         self.deepest_queue = self.deepest_queue.max(other.deepest_queue);
         self.fullest_inbox = self.fullest_inbox.max(other.fullest_inbox);
         self.most_owed = self.most_owed.max(other.most_owed);
@@ -134,6 +138,7 @@ impl fmt::Display for Tally {
         writeln!(f, "take {}", self.takes)?;
         writeln!(f, "owed {}", self.owed)?;
         writeln!(f, "queued floods {}, targets {}", self.floods, self.targets)?;
+        writeln!(f, "longest packet queued {}", self.longest_packet)?;
         for (number, count) in self.refusals.iter().enumerate() {
             if number >= 5 {
                 writeln!(f, "refused by {number}: {count}")?;
