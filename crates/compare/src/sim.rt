@@ -1,5 +1,5 @@
-// The simulator: the tree by plain lists and loops, from the rules alone. It shares nothing with the router but the names of a station and
-// an input, which a fire is called with.
+// The simulator: the tree by plain lists and loops, from the rules of the documents. It shares nothing with the router but the names of a
+// station and an input, which a fire is called with.
 mod cards;
 mod families;
 mod fires;
