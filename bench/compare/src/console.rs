@@ -8,8 +8,8 @@ use std::time::{Duration, Instant};
 
 const REPEATS: usize = 10;
 
-/// The program's output, and how long it took.
-fn run(program: &Path, deck: &Path) -> (Vec<u8>, Duration) {
+/// The program's answers, a line for each of the deck's, and how long they took.
+fn run(program: &Path, deck: &Path, lines: usize) -> (Vec<u8>, Duration) {
     let input = File::open(deck).expect("the deck opens");
     let start = Instant::now();
     let ran = Command::new(program)
@@ -17,7 +17,15 @@ fn run(program: &Path, deck: &Path) -> (Vec<u8>, Duration) {
         .stderr(Stdio::inherit())
         .output()
         .unwrap_or_else(|error| panic!("{}: {error}", program.display()));
-    (ran.stdout, start.elapsed())
+    let took = start.elapsed();
+    let shown = program.display();
+    assert!(ran.status.success(), "{shown}: {}", ran.status);
+    assert_eq!(lines_in(&ran.stdout), lines, "{shown}: answers, and lines");
+    (ran.stdout, took)
+}
+
+fn lines_in(text: &[u8]) -> usize {
+    text.iter().filter(|&&byte| byte == b'\n').count()
 }
 
 /// The plain console stands beside this program; where the proved one is, the environment says.
@@ -33,27 +41,34 @@ pub fn compare() {
     for Deck { name, text } in decks::all() {
         let deck = std::env::temp_dir().join(format!("deck-{}", std::process::id()));
         std::fs::write(&deck, &text).expect("the deck is written");
-        let lines = text.iter().filter(|&&byte| byte == b'\n').count();
-        if run(&plain, &deck).0 != run(&proved, &deck).0 {
+        let lines = lines_in(&text);
+        let (answers, _) = run(&plain, &deck, lines);
+        if answers != run(&proved, &deck, lines).0 {
             eprintln!("{name}: the consoles' outputs differ");
             std::process::exit(1);
         }
-        let (mut fast, mut slow) = (Duration::MAX, Duration::MAX);
+        assert!(
+            !answers
+                .split(|&byte| byte == b'\n')
+                .any(|line| line == b"no 21"),
+            "{name}: a line is not understood"
+        );
+        let (mut plain_time, mut proved_time) = (Duration::MAX, Duration::MAX);
         for turn in 0..2 * REPEATS {
             let (program, least) = if turn % 2 == 0 {
-                (&plain, &mut fast)
+                (&plain, &mut plain_time)
             } else {
-                (&proved, &mut slow)
+                (&proved, &mut proved_time)
             };
-            *least = (*least).min(run(program, &deck).1);
+            *least = (*least).min(run(program, &deck, lines).1);
         }
         let _ = std::fs::remove_file(&deck);
         let a_second = |time: Duration| lines as f64 / time.as_secs_f64();
         println!(
             "| {name} | {lines} | {:.0} | {:.0} | {:.2} |",
-            a_second(fast),
-            a_second(slow),
-            fast.as_secs_f64() / slow.as_secs_f64()
+            a_second(plain_time),
+            a_second(proved_time),
+            plain_time.as_secs_f64() / proved_time.as_secs_f64()
         );
     }
 }

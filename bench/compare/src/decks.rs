@@ -58,7 +58,10 @@ fn line_of(work: &Work, call: Call) -> String {
     }
 }
 
-/// The traffic of the first row as lines, and the same with lines among them that are not understood.
+/// A line of so many words always fits into the bytes that a console reads.
+const LONGEST: u64 = 21;
+
+/// The traffic of the first two rows, in packets that fit into lines.
 pub fn all() -> Vec<Deck> {
     let mut random = Random::new(0x5eed_0002);
     let full = || Wiring::full(5).unwrap();
@@ -67,6 +70,7 @@ pub fn all() -> Vec<Deck> {
             "mixed traffic, every call",
             &mut random,
             full(),
+            LONGEST,
             true,
             300_000,
         ),
@@ -74,6 +78,7 @@ pub fn all() -> Vec<Deck> {
             "mixed traffic, granted calls",
             &mut random,
             full(),
+            LONGEST,
             false,
             300_000,
         ),

@@ -2,14 +2,14 @@
 
 use crate::random::Random;
 use crate::work::{Call, Work};
-use crate::writer::{any_packet, packet, Writer, CARDS, HEAD, TAIL};
+use crate::writer::{any_packet, packet, Writer, CARDS, HEAD, LONGEST, TAIL};
 
 /// A tree that stands still: full inboxes, occupied links and held stations; so that each refusal of a fire can be had.
 pub fn stuck(writer: &mut Writer, random: &mut Random) {
     let wiring = writer.tree.wiring().clone();
     for _ in 0..200 {
         for card in 0..CARDS {
-            if let Some(packet) = any_packet(random, &wiring, card) {
+            if let Some(packet) = any_packet(random, &wiring, card, LONGEST) {
                 writer.send(card, &packet);
             }
         }

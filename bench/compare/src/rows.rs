@@ -4,7 +4,7 @@ use crate::random::Random;
 use crate::refused::{refused_fires, refused_sends, refused_takes};
 use crate::traffic::{chain, flood, sends, takes, traffic};
 use crate::work::{Call, Work};
-use crate::writer::Writer;
+use crate::writer::{Writer, LONGEST};
 use plain::Wiring;
 
 fn orders(random: &mut Random) -> Work {
@@ -41,6 +41,7 @@ pub fn all() -> Vec<Work> {
         "mixed traffic on a table's tree of 31 cards, every call",
         &mut random,
         Wiring::table(&chain()).unwrap(),
+        LONGEST,
         true,
         200_000,
     );
@@ -51,6 +52,7 @@ pub fn all() -> Vec<Work> {
             "mixed traffic on 31 cards, every call",
             &mut random,
             full(),
+            LONGEST,
             true,
             200_000,
         ),
@@ -58,6 +60,7 @@ pub fn all() -> Vec<Work> {
             "mixed traffic on 31 cards, granted calls",
             &mut random,
             full(),
+            LONGEST,
             false,
             200_000,
         ),

@@ -2,7 +2,7 @@
 
 use crate::random::Random;
 use crate::work::Work;
-use crate::writer::{any_packet, packet, Writer, CARDS, FLOOD, INPUTS};
+use crate::writer::{any_packet, packet, Writer, CARDS, FLOOD, INPUTS, LONGEST};
 use plain::Wiring;
 
 /// Every queue is kept full, the inputs of all cards are tried in an order of their own in each round, and every inbox is read.
@@ -10,6 +10,7 @@ pub fn traffic(
     name: &'static str,
     random: &mut Random,
     wiring: Wiring,
+    longest: u64,
     keeps_refused: bool,
     calls: usize,
 ) -> Work {
@@ -21,7 +22,7 @@ pub fn traffic(
         .collect();
     while writer.calls.len() < calls {
         for card in 0..cards {
-            if let Some(packet) = any_packet(random, &wiring, card) {
+            if let Some(packet) = any_packet(random, &wiring, card, longest) {
                 writer.send(card, &packet);
             }
         }
@@ -41,7 +42,7 @@ pub fn traffic(
     writer.done(granted)
 }
 
-/// A tree that no rule of the full tree fits: a chain that goes left and right by turns, with a leaf beside each card where there is room.
+/// The table of a chain of right daughters, the even cards, with an odd one as a leaf to the left of each but the last.
 pub fn chain() -> Vec<u8> {
     let mut table = vec![255; 62];
     for card in (0..29).step_by(2) {
@@ -56,7 +57,7 @@ pub fn flood(random: &mut Random) -> Work {
     writer.keeps_refused = false;
     for _ in 0..40 {
         let mut packet = packet(random, FLOOD | 0x80, 64);
-        // Key 70: six of seven rules are passed, three cards drop it.
+        // Key 70: of the eight rules the fourth drops it at three cards, and elsewhere four are passed before the fifth covers.
         packet[1] = 70;
         writer.send(0, &packet);
         writer.run();
@@ -93,7 +94,7 @@ pub fn sends(random: &mut Random) -> Work {
     let wiring = writer.tree.wiring().clone();
     for _ in 0..40 {
         for card in 0..CARDS {
-            if let Some(packet) = any_packet(random, &wiring, card) {
+            if let Some(packet) = any_packet(random, &wiring, card, LONGEST) {
                 writer.send(card, &packet);
             }
         }

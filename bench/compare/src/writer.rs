@@ -10,6 +10,9 @@ pub const HEAD: u32 = 0x8000_0000;
 pub const FLOOD: u32 = 0xa000_0000;
 pub const TAIL: u32 = 0x4000_0000;
 
+/// The most words of a packet, where nothing asks for fewer.
+pub const LONGEST: u64 = 24;
+
 /// The station and the input of each fire that a card may have.
 pub const INPUTS: [(u8, u8); 5] = [(0, 0), (0, 1), (0, 2), (1, 3), (1, 4)];
 
@@ -159,11 +162,16 @@ pub fn packet(random: &mut Random, head: u32, len: usize) -> Vec<u32> {
     packet
 }
 
-/// A packet to one card, or to three.
-pub fn any_packet(random: &mut Random, wiring: &Wiring, sender: u16) -> Option<Vec<u32>> {
+/// A packet of at most so many words to one card, or to three.
+pub fn any_packet(
+    random: &mut Random,
+    wiring: &Wiring,
+    sender: u16,
+    longest: u64,
+) -> Option<Vec<u32>> {
     let count = if random.below(4) == 0 { 3 } else { 1 };
     let cards: Vec<u16> = (0..count).map(|_| random.below(31) as u16).collect();
     let head = order(wiring, sender, &cards).ok()?;
-    let len = 2 + random.below(23) as usize;
+    let len = 2 + random.below(longest - 1) as usize;
     Some(packet(random, head, len))
 }

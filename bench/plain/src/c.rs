@@ -80,11 +80,11 @@ pub extern "C" fn plain_bytes() -> usize {
 /// Writes the tree of one card and no rules.
 #[no_mangle]
 pub unsafe extern "C" fn plain_begin(room: *mut Tree, bytes: usize) -> u64 {
-    if room.is_null() {
-        return NO_TREE;
-    }
     if bytes < plain_bytes() {
         return NO_ROOM;
+    }
+    if room.is_null() {
+        return NO_TREE;
     }
     match Wiring::full(1) {
         Ok(wiring) => room.write(Tree::new(wiring, Vec::new())),
