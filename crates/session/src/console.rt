@@ -1,5 +1,6 @@
 // The console: it waits for a tree, then takes the rules, then the tree runs.
 ghost use Rattle.std.specs.Prelude.{◌≡◌, Some};
+ghost use Rattle.command.specs.declared.command.Command.TheVariants.{Tree as TreeOf, Go};
 ghost use Rattle.session.specs.Desks.{waiting, obeyed, heard};
 ghost use Rattle.session.specs.Consoles.{desk_of};
 ghost use Rattle.session.specs.Sessions.{KeepsOn};
@@ -33,6 +34,38 @@ impl Console {
         Console::Waiting
     }
 
+    // `tree`: the rules come next. This and `go` are not inlined: the room for a console would be cleared at every command.
+    #[inline(never)]
+    fn begin(&mut self, levels: u16) -> Result<Answer, LineFault>
+        requires { desk_of self.old ≡ waiting }
+        ensures answer { result ≡ (obeyed waiting (TreeOf levels)).answer }
+        ensures next { desk_of self.new ≡ (obeyed waiting (TreeOf levels)).next }
+    {
+        *self = Console::Ruling {
+            wiring: FullTree::new(levels)?,
+            rules: Rulebook::new(),
+        };
+        Ok(Answer::Done)
+    }
+
+    // `go`: the tree is set up over the book of the rules.
+    #[inline(never)]
+    fn go(&mut self) -> Result<Answer, LineFault>
+        ensures answer { result ≡ (obeyed (desk_of self.old) Go).answer }
+        ensures next { desk_of self.new ≡ (obeyed (desk_of self.old) Go).next }
+        ensures laws { KeepsOn (Some Go) (desk_of self.old) (desk_of self.new) }
+    {
+        match self {
+            Console::Ruling { wiring, rules } => {
+                let rules = mem::replace(rules, Rulebook::new());
+                *self = Console::Running(Tree::new(*wiring, rules));
+                Ok(Answer::Done)
+            }
+            Console::Waiting => Err(LineFault::NotUnderstood),
+            Console::Running(_) => Err(LineFault::NotUnderstood),
+        }
+    }
+
     // Carries out a command, or refuses it and changes nothing.
     pub fn obey(&mut self, command: &Command) -> Result<Answer, LineFault>
         ensures answer { result ≡ (obeyed (desk_of self.old) command.now).answer }
@@ -40,26 +73,16 @@ impl Console {
         ensures laws { KeepsOn (Some command.now) (desk_of self.old) (desk_of self.new) }
     {
         match self {
-            Console::Waiting => {
-                let Command::Tree { levels } = command else {
-                    return Err(LineFault::NotUnderstood);
-                };
-                *self = Console::Ruling {
-                    wiring: FullTree::new(*levels)?,
-                    rules: Rulebook::new(),
-                };
-                Ok(Answer::Done)
-            }
-            Console::Ruling { wiring, rules } => match command {
+            Console::Waiting => match command {
+                Command::Tree { levels } => self.begin(*levels),
+                _ => Err(LineFault::NotUnderstood),
+            },
+            Console::Ruling { rules, .. } => match command {
                 Command::Rule { cards, keys, class } => {
                     add_rule(rules, *cards, *keys, *class)?;
                     Ok(Answer::Done)
                 }
-                Command::Go => {
-                    let rules = mem::replace(rules, Rulebook::new());
-                    *self = Console::Running(Tree::new(*wiring, rules));
-                    Ok(Answer::Done)
-                }
+                Command::Go => self.go(),
                 _ => Err(LineFault::NotUnderstood),
             },
             Console::Running(tree) => call(tree, command),
