@@ -1,6 +1,10 @@
 // The console of the tree: each line of standard input is answered by one line.
 #![tactic(auto)]
 
+ghost use Rattle.std.specs.Prelude.{[], ◌∷◌, ◌++◌, OnOk};
+ghost use Rattle.std.specs.Io.KnownBytes.{Appends};
+ghost use Rattle.session.specs.Answers.{reply_text};
+
 use session::{Answer, Conversation, LineFault, Reply};
 use std::io;
 use std::io::{BufRead, BufReader, BufWriter, IsTerminal, Write};
@@ -36,7 +40,9 @@ impl<O: Write, E: Write> Terminal<O, E> {
     }
 
     // Writes one line, and for a person what is wrong. That these words cannot be written ends nothing.
-    fn write(&mut self, answer: Result<Answer, LineFault>) -> io::Result<()> {
+    fn write(&mut self, answer: Result<Answer, LineFault>) -> io::Result<()>
+        ensures text { OnOk result (Appends (O.contents self.old.out) (O.contents self.new.out) (reply_text answer ++ 10 ∷ [])) }
+    {
         writeln!(self.out, "{}", Reply(answer))?;
         if let (Some(aside), Err(fault)) = (&mut self.aside, answer) {
             self.out.flush()?;
