@@ -1,5 +1,5 @@
 // A queue of at most 64 words. It stays in fixed memory, where freed places are used again, since no call on a tree may allocate.
-ghost use Rattle.std.specs.Prelude.{◌≡◌, ℕ, ◌+◌, ◌<◌, ◌≤◌, List, [], ◌∷◌, ◌++◌, length};
+ghost use Rattle.std.specs.Prelude.{◌≡◌, ℕ, ◌+◌, ◌%◌, ◌<◌, ◌≤◌, List, [], ◌∷◌, ◌++◌, length};
 ghost use Rattle.network.specs.Cards.{oldest, younger};
 ghost use Rattle.store.specs.Rings.{around};
 
@@ -78,8 +78,23 @@ impl Ring {
         requires { length self.old + length words.now ≤ 64 }
         ensures { self.new ≡ self.old ++ words.now }
     {
-        for word in words {
-            self.push(*word);
-        }
+        let end = (self.first + self.count) % 64;
+        copy_round(&mut self.words, end, words);
+        self.count += words.len();
     }
+}
+
+// Words from a place on, and from the first one on where the memory ends before they do.
+fn copy_round(memory: &mut [u32; 64], at: usize, words: &[u32])
+    requires { (at < 64) × (length words.now ≤ 64) }
+    ensures { (f n : ℕ) → (f + n) % 64 ≡ at → n + length words.now ≤ 64 → around memory.new f (n + length words.now) ≡ around memory.old f n ++ words.now }
+{
+    let room = 64 - at;
+    if words.len() <= room {
+        memory[at..at + words.len()].copy_from_slice(words);
+        return;
+    }
+    let (front, back) = words.split_at(room);
+    memory[at..].copy_from_slice(front);
+    memory[..back.len()].copy_from_slice(back);
 }
