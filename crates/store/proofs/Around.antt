@@ -1,12 +1,12 @@
 -- Words round a ring of 64 places.
-use Rattle.std.proofs.Common.{rules, ◌≡◌, ℕ, zero, suc, ◌+◌, ◌-◌, ◌%◌, ◌<◌, ◌≤◌, ◌≢◌, inl, inr, List, [], ◌∷◌, ◌++◌, length, get_or, set, refl, sym, ap, ◌∙◌, add-zero, arith, get_or-set_other, get_or-set_same, length-append, append_assoc}
+use Rattle.std.proofs.Common.{rules, ◌≡◌, ℕ, zero, suc, ◌+◌, ◌-◌, ◌%◌, ◌^◌, ◌<◌, ◌≤◌, ◌≢◌, inl, inr, List, [], ◌∷◌, ◌++◌, length, get_or, set, Some, refl, sym, ap, ◌∙◌, add-zero, arith, get_or-set_other, get_or-set_same, length-append, append_assoc}
 use lib.Lanes.{put_chunk}
 use borrow.Rule.Slice.PartMut.{put_mid}
 use Rattle.std.proofs.lemmas.Bool.{cases_lt}
 use Rattle.std.proofs.lemmas.List.{places, same_lists, get_or_default, get_or_append_left, get_or-append_right}
 use Rattle.std.proofs.lemmas.Simd.{put_chunk_is, get_or-put_chunk_below, get_or-put_chunk_at, get_or-put_chunk_above}
-use Rattle.network.specs.Cards.{younger}
-use Rattle.store.specs.Rings.{around}
+use Rattle.network.specs.Cards.{oldest, younger}
+use Rattle.store.specs.Rings.{around, waiting}
 
 pub length-around : (ws : List ℕ) (f n : ℕ) → length (around ws f n) ≡ n
 length-around ws f zero = refl
@@ -41,11 +41,11 @@ around_behind ws vs xs f n stayed written =
           (get_or_default xs (i - n) 0 d (omega arith) ∙ sym (get_or-append_right (around ws f n) xs n i d a h)))
     ])
 
-pub around_push : (ws : List ℕ) (f n w : ℕ) → length ws ≡ 64 → n < 64 → around (set ws ((f + n) % 64) w) f (n + 1) ≡ around ws f n ++ w ∷ []
-around_push ws f n w l h =
-    around_behind ws (set ws ((f + n) % 64) w) (w ∷ []) f n
-    (λ i b. let ne : (f + i) % 64 ≢ (f + n) % 64 = omega arith in rw get_or-set_other refl)
-    (λ i b. let z : i ≡ 0 = omega arith in let lt : (f + n) % 64 < length ws = omega arith in rw (z, add-zero, get_or-set_same) refl)
+pub around_push : (ws : List ℕ) (f n p w : ℕ) → length ws ≡ 64 → (f + n) % 64 ≡ p → n < 64 → around (set ws p w) f (n + 1) ≡ around ws f n ++ w ∷ []
+around_push ws f n p w l at h =
+    around_behind ws (set ws p w) (w ∷ []) f n
+    (λ i b. let ne : (f + i) % 64 ≢ p = omega arith in rw get_or-set_other refl)
+    (λ i b. let z : i ≡ 0 = omega arith in let lt : p < length ws = omega arith in rw (z, add-zero, at, get_or-set_same) refl)
 
 -- words copied in from the next place on
 pub around_copied : (ws xs : List ℕ) (f n p k : ℕ) → length ws ≡ 64 → (f + n) % 64 ≡ p → n + length xs ≤ 64 → p + length xs ≤ 64 → k ≡ length xs →
@@ -74,9 +74,24 @@ around_copied_round ws xs front back f n p l at few split end =
     let e : n + length xs ≡ n + length front + length back = omega arith in
     rw (e, split) (b ∙ (ap (λ (t : List ℕ). t ++ back) a ∙ append_assoc (around ws f n) front back))
 
+pub next_place : (t a : ℕ) → t < 2 ^ 32 → a < 2 ^ 32 → (t + waiting t a) % 64 ≡ a % 64
+next_place t a l k = omega arith
+
+pub waiting_more : (t a m : ℕ) → t < 2 ^ 32 → a < 2 ^ 32 → waiting t a + m ≤ 64 → waiting t ((a + m) % 2 ^ 32) ≡ waiting t a + m
+waiting_more t a m l k h = omega arith
+
 -- without the oldest word the ring starts at the next place
-pub younger_around : (ws : List ℕ) (f n : ℕ) → around ws ((f + 1) % 64) (n - 1) ≡ younger (around ws f n)
-younger_around ws f zero = refl
-younger_around ws f (suc n) =
-    let m : suc n - 1 ≡ n = omega arith in
-    rw m (around_same ws ((f + 1) % 64) (f + 1) n (omega arith))
+younger_from : (ws : List ℕ) (f g n m : ℕ) → g % 64 ≡ (f + 1) % 64 → n ≡ m + 1 → around ws g m ≡ younger (around ws f n)
+younger_from ws f g zero m e h = absurd (omega arith)
+younger_from ws f g (suc n) m e h = let z : m ≡ n = omega arith in rw z (around_same ws g (f + 1) n e)
+
+some_oldest : (ws : List ℕ) (w : ℕ) → oldest ws ≡ Some w → 0 < length ws
+some_oldest [] w e = grind arith
+some_oldest (x ∷ ws) w e = omega arith
+
+pub younger_around : (ws : List ℕ) (t a w : ℕ) → t < 2 ^ 32 → a < 2 ^ 32 → oldest (around ws t (waiting t a)) ≡ Some w →
+    around ws ((t + 1) % 2 ^ 32) (waiting ((t + 1) % 2 ^ 32) a) ≡ younger (around ws t (waiting t a))
+younger_around ws t a w l k e =
+    let some = some_oldest _ w e in
+    let long = length-around ws t (waiting t a) in
+    younger_from ws t ((t + 1) % 2 ^ 32) (waiting t a) (waiting ((t + 1) % 2 ^ 32) a) (omega arith) (omega arith)

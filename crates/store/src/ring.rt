@@ -1,24 +1,25 @@
 // A queue of at most 64 words. It stays in fixed memory, where freed places are used again, since no call on a tree may allocate.
 ghost use Rattle.std.specs.Prelude.{◌≡◌, ℕ, ◌+◌, ◌%◌, ◌<◌, ◌≤◌, List, [], ◌∷◌, ◌++◌, length};
 ghost use Rattle.network.specs.Cards.{oldest, younger};
-ghost use Rattle.store.specs.Rings.{around};
+ghost use Rattle.store.specs.Rings.{around, waiting};
 
 use std::marker::Model;
 
+// Both counters only grow, and wrap. A word that is taken changes one of them, where a first place and a length would both change.
 #[derive(Drop)]
 pub(crate) struct Ring {
     words: [u32; 64],
-    first: usize,
-    count: usize,
+    taken: u32,
+    added: u32,
 }
 
 // Clauses see the words, oldest first.
 impl Model for Ring {
     ghost Value = { List ℕ };
 
-    ghost view = { λ r. around r.words r.first r.count };
+    ghost view = { λ r. around r.words r.taken (waiting r.taken r.added) };
 
-    ghost invariant = { λ r. (r.first < 64) × (r.count ≤ 64) };
+    ghost invariant = { λ r. waiting r.taken r.added ≤ 64 };
 }
 
 impl Ring {
@@ -27,8 +28,8 @@ impl Ring {
     {
         Ring {
             words: [0; 64],
-            first: 0,
-            count: 0,
+            taken: 0,
+            added: 0,
         }
     }
 
@@ -37,17 +38,17 @@ impl Ring {
         ensures words { result ≡ length self.now }
         ensures few { result ≤ 64 }
     {
-        self.count
+        self.added.wrapping_sub(self.taken) as usize
     }
 
     #[inline(always)]
     pub(crate) fn oldest(&self) -> Option<u32>
         ensures { result ≡ oldest self.now }
     {
-        if self.count == 0 {
+        if self.added == self.taken {
             return None;
         }
-        Some(self.words[self.first])
+        Some(self.words[(self.taken % 64) as usize])
     }
 
     // One word more, behind the others.
@@ -56,9 +57,8 @@ impl Ring {
         requires { length self.old < 64 }
         ensures { self.new ≡ self.old ++ word ∷ [] }
     {
-        let at = (self.first + self.count) % 64;
-        self.words[at] = word;
-        self.count += 1;
+        self.words[(self.added % 64) as usize] = word;
+        self.added = self.added.wrapping_add(1);
     }
 
     // The oldest word leaves.
@@ -68,8 +68,7 @@ impl Ring {
         ensures rest { self.new ≡ younger self.old }
     {
         let word = self.oldest()?;
-        self.first = (self.first + 1) % 64;
-        self.count -= 1;
+        self.taken = self.taken.wrapping_add(1);
         Some(word)
     }
 
@@ -78,9 +77,8 @@ impl Ring {
         requires { length self.old + length words.now ≤ 64 }
         ensures { self.new ≡ self.old ++ words.now }
     {
-        let end = (self.first + self.count) % 64;
-        copy_round(&mut self.words, end, words);
-        self.count += words.len();
+        copy_round(&mut self.words, (self.added % 64) as usize, words);
+        self.added = self.added.wrapping_add(words.len() as u32);
     }
 }
 
