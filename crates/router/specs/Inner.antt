@@ -1,11 +1,7 @@
 -- What the inner steps hand on.
-use Rattle.std.specs.Prelude.{ℕ, ◌+◌, ◌-◌, min, Bool, not, cond, Some, None, Ok, Err, Option, Result, nat_lt}
+use Rattle.std.specs.Prelude.{ℕ, ◌+◌, ◌-◌, min, cond, Some, None, Ok, Err, Option, Result, nat_lt}
 use Rattle.refusal.specs.declared.drive.FireFault.{FireFault}
 use Rattle.refusal.specs.declared.send.PacketFault.{PacketFault}
-use Rattle.packet.specs.declared.sides.Side.{Side}
-use Rattle.packet.specs.declared.sides.Side.TheVariants.{Left, Right}
-use Rattle.packet.specs.Routes.{top_bit, stops}
-use Rattle.packet.specs.Heads.{floods}
 use Rattle.wiring.specs.Shapes.{Shape}
 use Rattle.routing.specs.Subtrees.{path_hops}
 use Rattle.network.specs.Sends.{Way}
@@ -27,8 +23,3 @@ lowered n (Err f) = n
 abbrev pub raised : Shape → ℕ → ℕ → Result Way PacketFault → ℕ
 raised s n l (Ok w) = min (n + path_hops s w.mode w.walk l) greatest
 raised s n l (Err f) = n
-
--- a packet of this head goes on to the daughter on this side
-abbrev pub goes_to : Side → ℕ → Bool
-goes_to Left h = cond (stops h) (floods h) (not (top_bit h))
-goes_to Right h = cond (stops h) (floods h) (top_bit h)

@@ -47,7 +47,11 @@ impl<W: Wiring, P: Policy> Tree<W, P> {
         ensures same { SameParts self.old self.new }
         ensures laws { Keeps (fire card station input) (tree_of W.shape P.verdict self.old) (tree_of W.shape P.verdict self.new) }
     {
-        self.fire_step(card, station, input)
+        // One copy of the step for each station.
+        match station {
+            Station::Up => self.fire_step(card, Station::Up, input),
+            Station::Down => self.fire_step(card, Station::Down, input),
+        }
     }
 
     // Removes and returns the oldest word of an inbox.

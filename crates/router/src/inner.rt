@@ -1,9 +1,9 @@
 // What the calls are made of: the checks, the plan of a fire, and its writes. Card, station and input stay three arguments, as in the
 // definitions that the clauses name.
-ghost use Rattle.std.specs.Prelude.{◌≡◌, cond, None};
+ghost use Rattle.std.specs.Prelude.{◌≡◌};
 ghost use Rattle.station.specs.Plans.{down_by, judged, downward, planned};
 ghost use Rattle.network.specs.Fires.{located, hold_at, passing};
-ghost use Rattle.router.specs.Inner.{card_in, lowered, goes_to};
+ghost use Rattle.router.specs.Inner.{card_in, lowered};
 ghost use Rattle.router.specs.Kept.{SameParts};
 
 use crate::tree::Tree;
@@ -12,20 +12,6 @@ use packet::{KeyWord, Side, advance, floods, stops, top_bit};
 use refusal::FireFault;
 use station::{CardId, Channel, Here, Hold, Input, Plan, Station, up_plan};
 use wiring::Wiring;
-
-// Does a packet of this head go on to the daughter on this side? At the stop a flood goes to both.
-#[inline(always)]
-fn goes_to(head: u32, side: Side) -> bool
-    ensures { result ≡ goes_to side head }
-{
-    if stops(head) {
-        return floods(head);
-    }
-    match side {
-        Side::Left => !top_bit(head),
-        Side::Right => top_bit(head),
-    }
-}
 
 impl<W: Wiring, P: Policy> Tree<W, P> {
     // The card of this number, if the tree has it.
@@ -61,8 +47,10 @@ impl<W: Wiring, P: Policy> Tree<W, P> {
         ensures { result ≡ located (W.shape self.now.wiring) card station input }
     {
         let channel = match (station, input) {
-            (Station::Up, Input::Left) => self.daughter(card, Side::Left).map(Channel::UpLink),
-            (Station::Up, Input::Right) => self.daughter(card, Side::Right).map(Channel::UpLink),
+            (Station::Up, Input::Left | Input::Right) => {
+                let side = Side::from(input == Input::Right);
+                self.daughter(card, side).map(Channel::UpLink)
+            }
             (Station::Up, Input::Queue) => Some(Channel::Queued(card)),
             (Station::Down, Input::Parent) => {
                 self.wiring
@@ -93,28 +81,25 @@ impl<W: Wiring, P: Policy> Tree<W, P> {
         }
     }
 
-    // The daughter on this side, if a packet of this head goes on to her.
-    #[inline(always)]
-    fn toward(&self, card: CardId, head: u32, side: Side) -> Option<CardId>
-        ensures { result ≡ cond (goes_to side head) ((W.shape self.now.wiring).daughter side card) None }
-    {
-        if goes_to(head, side) {
-            self.daughter(card, side)
-        } else {
-            None
-        }
-    }
-
     // A word goes where its head goes.
     #[inline(always)]
     fn follow(&self, card: CardId, head: u32, word: u32, here: Here) -> Plan<CardId>
         ensures { result ≡ down_by (W.shape self.now.wiring) card head word here }
     {
+        let (left, right) = match (stops(head), floods(head), top_bit(head)) {
+            (true, true, _) => (
+                self.daughter(card, Side::Left),
+                self.daughter(card, Side::Right),
+            ),
+            (true, false, _) => (None, None),
+            (false, _, true) => (None, self.daughter(card, Side::Right)),
+            (false, _, false) => (self.daughter(card, Side::Left), None),
+        };
         Plan {
             up: false,
             turn: false,
-            left: self.toward(card, head, Side::Left),
-            right: self.toward(card, head, Side::Right),
+            left,
+            right,
             word,
             here,
         }

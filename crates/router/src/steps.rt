@@ -50,31 +50,14 @@ impl<W: Wiring, P: Policy> Tree<W, P> {
         Ok(())
     }
 
-    // A fire: one word through one station.
+    // A fire: one word through one station. Where the compiler knows the station, it leaves out what the other needs.
+    #[inline(always)]
     pub(crate) fn fire_step(
         &mut self,
         card: u16,
         station: Station,
         input: Input,
     ) -> Result<u8, FireFault>
-        ensures answer { result ≡ (fire_step (W.shape self.old.wiring) (P.verdict self.old.policy) self.old.table card station input).answer }
-        ensures next { self.new.table ≡ (fire_step (W.shape self.old.wiring) (P.verdict self.old.policy) self.old.table card station input).next }
-        ensures same { SameParts self.old self.new }
-        ensures owed { self.new.owed ≡ lowered self.old.owed result }
-    {
-        // One copy of the step for each input.
-        match input {
-            Input::Left => self.fire_at(card, station, Input::Left),
-            Input::Right => self.fire_at(card, station, Input::Right),
-            Input::Queue => self.fire_at(card, station, Input::Queue),
-            Input::Parent => self.fire_at(card, station, Input::Parent),
-            Input::Turn => self.fire_at(card, station, Input::Turn),
-        }
-    }
-
-    // A fire at an input that the compiler knows, so that it leaves out what other inputs need.
-    #[inline(always)]
-    fn fire_at(&mut self, card: u16, station: Station, input: Input) -> Result<u8, FireFault>
         ensures answer { result ≡ (fire_step (W.shape self.old.wiring) (P.verdict self.old.policy) self.old.table card station input).answer }
         ensures next { self.new.table ≡ (fire_step (W.shape self.old.wiring) (P.verdict self.old.policy) self.old.table card station input).next }
         ensures same { SameParts self.old self.new }
