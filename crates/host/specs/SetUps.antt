@@ -7,9 +7,9 @@ use Rattle.refusal.specs.declared.build.LicenceFault.{LicenceFault}
 use Rattle.wiring.specs.Shapes.{Shape, full_shape}
 use Rattle.wiring.specs.Fulls.{full_tree}
 use Rattle.wiring.specs.Tables.{Wired}
+use Rattle.wiring.specs.Cabinets.{cabinet_shape}
+use Rattle.wiring.specs.declared.cabinets.Cabinet.{Cabinet}
 use Rattle.licence.specs.Ranges.{RangeMeaning}
-use Rattle.planner.specs.Cabinets.{cabinet_shape}
-use Rattle.planner.specs.declared.cabinets.Cabinet.{Cabinet}
 use Rattle.router.specs.Kept.{Stands}
 use Rattle.router.specs.Calls.{new_tree}
 use Rattle.host.specs.declared.lines.RuleLine.{RuleLine}

@@ -1,6 +1,6 @@
 -- What a host's tree means.
 use Rattle.wiring.specs.Shapes.{Shape}
-use Rattle.planner.specs.Cabinets.{cabinet_shape}
+use Rattle.wiring.specs.Cabinets.{cabinet_shape}
 use Rattle.router.specs.Kept.{Meaning, tree_of}
 use Rattle.host.specs.declared.tree.HostTree.{HostTree}
 use Rattle.rulebook.specs.Rulebooks.{ruled}

@@ -6,11 +6,10 @@ ghost use Rattle.host.specs.SetUps.{MadeOf, SetUp, FullSetUp, WiredSetUp, Single
 use crate::lines::{RuleLine, read_rules};
 use crate::told::refused;
 use crate::tree::HostTree;
-use planner::Cabinet;
 use refusal::{Refusal, WiringFault};
 use router::Tree;
 use rulebook::Rulebook;
-use wiring::{FullTree, WiredTree};
+use wiring::{Cabinet, FullTree, WiredTree};
 
 // The tree of this wiring and these rules. The wiring is judged first.
 fn made(wiring: Result<Cabinet, WiringFault>, lines: &[RuleLine]) -> Result<HostTree, Refusal>

@@ -1,7 +1,7 @@
 // The tree that a host holds.
-use planner::Cabinet;
 use router::Tree;
 use rulebook::Rulebook;
+use wiring::Cabinet;
 
 // A tree of either wiring with range rules. The wiring stands here once more, since route orders read it.
 #[derive(Drop)]

@@ -1,11 +1,11 @@
 // Plans the routes of a batch of orders: a wiring first, then an order to a line. Each line is answered, and a summary ends the answers.
 #![tactic(auto)]
 
-use planner::{Cabinet, PlanFault, answer_order, read_wiring};
+use planner::{PlanFault, answer_order, read_wiring};
 use std::alloc::Global;
 use std::io::{BufRead, BufReader, BufWriter, Write};
 use std::{fmt, io};
-use wiring::Wiring;
+use wiring::{Cabinet, Wiring};
 
 // How many lines were answered so far.
 #[derive(Clone, Copy, Default)]

@@ -1,19 +1,13 @@
 -- The wiring that a line states, and what the line is answered.
 use Rattle.std.specs.Prelude.{◌≡◌, Some, None, Ok, Err, Option, Result}
-use Rattle.wiring.specs.Shapes.{Shape, full_shape}
+use Rattle.wiring.specs.Shapes.{Shape}
 use Rattle.wiring.specs.Fulls.{full_tree}
 use Rattle.wiring.specs.Tables.{Wired}
-use Rattle.wiring.specs.Wireds.{wired_shape}
+use Rattle.wiring.specs.Cabinets.{cabinet_shape}
+use Rattle.wiring.specs.declared.cabinets.Cabinet.{Cabinet}
 use Rattle.planner.specs.declared.faults.PlanFault.{PlanFault}
 use Rattle.planner.specs.declared.faults.PlanFault.TheVariants.{NotUnderstood, Wiring, Order, Memory}
-use Rattle.planner.specs.declared.cabinets.Cabinet.{Cabinet}
-use Rattle.planner.specs.declared.cabinets.Cabinet.TheVariants.{Full, Wired as WiredCabinet}
 use Rattle.planner.specs.Lines.{Frame, levels, table}
-
--- a cabinet means what its tree means
-abbrev pub cabinet_shape : Cabinet → Shape
-cabinet_shape (Full t) = full_shape t.cards
-cabinet_shape (WiredCabinet t) = wired_shape t
 
 abbrev pub cabinet_told : Result Cabinet PlanFault → Result Shape PlanFault
 cabinet_told (Ok c) = Ok (cabinet_shape c)

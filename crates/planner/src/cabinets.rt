@@ -1,51 +1,13 @@
 // The wiring that a deck states: a full tree, or the tree that a table lists.
-ghost use Rattle.std.specs.Prelude.{◌≡◌};
-ghost use Rattle.planner.specs.Cabinets.{cabinet_shape, cabinet_told, FrameAnswered};
+ghost use Rattle.planner.specs.Cabinets.{cabinet_told, FrameAnswered};
 ghost use Rattle.text.specs.Fields.{fields_left};
 ghost use Rattle.planner.specs.Lines.{entry_of, read_all, tree_of, tabled, frame_line};
-ghost use Rattle.std.proofs.Common.{rules};
 
 use crate::faults::PlanFault;
 use crate::reading::{Entry, read_all};
-use packet::Side;
 use std::alloc::Global;
 use text::{Decimal, Fields};
-use wiring::{FullTree, WiredTree, Wiring};
-
-// A wiring of either kind. An enum, since a function may not hand out a `dyn Wiring` that it made.
-#[derive(Clone, Copy)]
-pub enum Cabinet {
-    Full(FullTree),
-    Wired(WiredTree),
-}
-
-impl Wiring for Cabinet {
-    ghost shape = { cabinet_shape };
-
-    ghost lawful = { Prim.search rules };
-
-    fn cards(&self) -> u16 {
-        match self {
-            Cabinet::Full(tree) => tree.cards(),
-            Cabinet::Wired(tree) => tree.cards(),
-        }
-    }
-
-    #[inline(always)]
-    fn daughter(&self, card: u16, side: Side) -> Option<u16> {
-        match self {
-            Cabinet::Full(tree) => tree.daughter(card, side),
-            Cabinet::Wired(tree) => tree.daughter(card, side),
-        }
-    }
-
-    fn parent(&self, card: u16) -> Option<(u16, Side)> {
-        match self {
-            Cabinet::Full(tree) => tree.parent(card),
-            Cabinet::Wired(tree) => tree.parent(card),
-        }
-    }
-}
+use wiring::{Cabinet, FullTree, WiredTree};
 
 // `tree` and the number of levels.
 fn full_tree(mut fields: Fields) -> Result<Cabinet, PlanFault>

@@ -8,7 +8,7 @@ mod plans;
 mod printing;
 mod reading;
 
-pub use cabinets::{Cabinet, read_wiring};
+pub use cabinets::read_wiring;
 pub use faults::PlanFault;
 pub use orders::answer_order;
 pub use plans::{Plan, plan_order};

@@ -3,3 +3,4 @@ pub mod Fulls
 pub mod Tables
 pub mod Linked
 pub mod Wireds
+pub mod Cabinets
