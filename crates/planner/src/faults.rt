@@ -47,10 +47,7 @@ impl PlanFault {
         ensures { result ≡ plan_refusal self.now }
     {
         match *self {
-            PlanFault::NotUnderstood => Some(Refusal {
-                number: 21,
-                place: None,
-            }),
+            PlanFault::NotUnderstood => Some(Refusal::of(21)),
             PlanFault::Wiring(fault) => Some(fault.refusal()),
             PlanFault::Order(fault) => Some(fault.refusal()),
             PlanFault::Memory => None,

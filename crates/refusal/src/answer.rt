@@ -13,7 +13,7 @@ pub struct Refusal {
 
 impl Refusal {
     // A refusal with no place.
-    pub(crate) fn of(number: u8) -> Refusal
+    pub fn of(number: u8) -> Refusal
         ensures { result ≡ numbered number }
     {
         Refusal {

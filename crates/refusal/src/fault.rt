@@ -31,7 +31,7 @@ impl<F: Fault + Drop> From<F> for Refusal {
 }
 
 // The body of each fault's Display. The derive of thiserror is no way to it: it states nothing of what is printed.
-pub(crate) fn write_sentence<F: Fault, W: fmt::Write>(
+pub fn write_sentence<F: Fault, W: fmt::Write>(
     fault: &F,
     f: &mut fmt::Formatter<W>,
 ) -> fmt::Result

@@ -11,6 +11,6 @@ mod send;
 pub use answer::Refusal;
 pub use build::{LicenceFault, WiringFault};
 pub use drive::{DeliveryFault, FireFault, TakeFault};
-pub use fault::Fault;
+pub use fault::{Fault, write_sentence};
 pub use order::OrderFault;
 pub use send::{PacketFault, RouteFault};
