@@ -3,3 +3,4 @@ pub mod Lines
 pub mod Read
 pub mod Answers
 pub mod Cabinets
+pub mod Texts

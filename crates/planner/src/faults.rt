@@ -2,6 +2,7 @@
 ghost use Rattle.std.specs.Prelude.{◌≡◌, Some, None};
 ghost use Rattle.planner.specs.declared.faults.PlanFault.TheVariants.{Wiring as PlanWiring, Order as PlanOrder, Memory as PlanMemory};
 ghost use Rattle.planner.specs.Answers.{plan_refusal};
+ghost use Rattle.planner.specs.Texts.{fault_text};
 
 use refusal::{Fault, OrderFault, Refusal, WiringFault};
 use std::alloc::AllocError;
@@ -57,6 +58,8 @@ impl PlanFault {
 
 // By hand, since `thiserror` would ask `Debug` of the faults that it holds.
 impl fmt::Display for PlanFault {
+    ghost output = { λ fault. Some (fault_text fault) };
+
     fn fmt<W: fmt::Write>(&self, f: &mut fmt::Formatter<W>) -> fmt::Result {
         match *self {
             PlanFault::NotUnderstood => write!(f, "21: the line is not understood"),
