@@ -1,6 +1,12 @@
 // Plans the routes of a batch of orders: a wiring first, then an order to a line. Each line is answered, and a summary ends the answers.
 #![tactic(auto)]
 
+ghost use Rattle.std.specs.Prelude.{◌≡◌, Some, None, OnOk};
+ghost use Rattle.std.specs.Io.KnownBytes.{Appends};
+ghost use Rattle.wiring.specs.Cabinets.{cabinet_shape};
+ghost use Rattle.plan.specs.Tallies.{nothing_counted, one_refused, tally_text};
+ghost use Rattle.plan.specs.Decks.{Printed, LineTold, WiringTold, OrderTold, refused_text, line_text};
+
 use planner::{PlanFault, answer_order, read_wiring};
 use std::alloc::Global;
 use std::io::{BufRead, BufReader, BufWriter, Write};
@@ -15,6 +21,8 @@ struct Tally {
 }
 
 impl fmt::Display for Tally {
+    ghost output = { λ tally. Some (tally_text tally) };
+
     fn fmt<W: fmt::Write>(&self, f: &mut fmt::Formatter<W>) -> fmt::Result {
         write!(
             f,
@@ -34,7 +42,24 @@ struct Deck<O> {
 }
 
 impl<O: Write> Deck<O> {
-    fn answer(&mut self, line: &[u8]) -> io::Result<()> {
+    // A deck of which nothing is answered yet.
+    fn new(out: O, heap: Global) -> Deck<O>
+        ensures out { result.out ≡ out }
+        ensures wiring { result.cabinet ≡ None }
+        ensures tally { result.tally ≡ nothing_counted }
+    {
+        Deck {
+            out,
+            heap,
+            cabinet: None,
+            tally: Tally::default(),
+        }
+    }
+
+    // Answers a line: the first ones state the wiring, and the others are orders.
+    fn answer(&mut self, line: &[u8]) -> io::Result<()>
+        ensures { OnOk result (LineTold O.contents self.old.cabinet line.now self.old self.new) }
+    {
         match self.cabinet {
             None => self.wire(line),
             Some(cabinet) => self.plan(&cabinet, line),
@@ -42,7 +67,9 @@ impl<O: Write> Deck<O> {
     }
 
     // Answers a line before the wiring is known.
-    fn wire(&mut self, line: &[u8]) -> io::Result<()> {
+    fn wire(&mut self, line: &[u8]) -> io::Result<()>
+        ensures { OnOk result (WiringTold O.contents line.now self.old self.new) }
+    {
         match read_wiring(self.heap, line) {
             Ok(cabinet) => {
                 self.cabinet = Some(cabinet);
@@ -53,7 +80,9 @@ impl<O: Write> Deck<O> {
     }
 
     // Answers an order.
-    fn plan(&mut self, cabinet: &Cabinet, line: &[u8]) -> io::Result<()> {
+    fn plan(&mut self, cabinet: &Cabinet, line: &[u8]) -> io::Result<()>
+        ensures { OnOk result (OrderTold O.contents (cabinet_shape cabinet.now) line.now self.old self.new) }
+    {
         match answer_order(self.heap, cabinet, line) {
             Ok(plan) => {
                 self.tally.planned = self.tally.planned.saturating_add(1);
@@ -63,23 +92,27 @@ impl<O: Write> Deck<O> {
         }
     }
 
-    fn refuse(&mut self, fault: PlanFault) -> io::Result<()> {
+    fn refuse(&mut self, fault: PlanFault) -> io::Result<()>
+        ensures { OnOk result (Printed O.contents (refused_text fault) self.old.cabinet (one_refused self.old.tally) self.old self.new) }
+    {
         self.tally.refused = self.tally.refused.saturating_add(1);
         writeln!(self.out, "refused by {fault}")
+    }
+
+    // Ends the answers by the summary.
+    fn end(&mut self) -> io::Result<()>
+        ensures { OnOk result (Appends (O.contents self.old.out) (O.contents self.new.out) (line_text (tally_text self.old.tally))) }
+    {
+        writeln!(self.out, "{}", self.tally)?;
+        self.out.flush()
     }
 }
 
 fn main(rt: HostRuntime) -> io::Result<()> {
     let heap = rt.alloc();
-    let mut deck = Deck {
-        out: BufWriter::new(heap, rt.stdout())?,
-        heap,
-        cabinet: None,
-        tally: Tally::default(),
-    };
+    let mut deck = Deck::new(BufWriter::new(heap, rt.stdout())?, heap);
     for line in BufReader::new(heap, rt.stdin())?.split(heap, b'\n') {
         deck.answer(line?.as_slice())?;
     }
-    writeln!(deck.out, "{}", deck.tally)?;
-    deck.out.flush()
+    deck.end()
 }
