@@ -14,7 +14,7 @@ use Rattle.text.specs.Parted.{NoSpace}
 use Rattle.text.specs.Spelled.{hex_text}
 use Rattle.text.proofs.Parting.{NotSpace, parted_fields}
 use Rattle.text.proofs.ReadBack.{decimal_back, hex_byte_back, hex_word_back}
-use Rattle.command.specs.declared.command.Command.{Command}
+use Rattle.command.specs.Commands.{Command}
 use Rattle.command.specs.Letters.{SaysBits, SaysRoute}
 use Rattle.command.specs.Says.{SaysClass, SaysWord, mode_letter, station_letter, input_letter, Says}
 use Rattle.command.specs.Says.Says.{says_tree, says_rule, says_go, says_send, says_fire, says_take, says_owed}

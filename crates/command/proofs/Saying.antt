@@ -12,7 +12,7 @@ use Rattle.station.specs.declared.hold.Input.{Input}
 use Rattle.station.specs.declared.hold.Input.TheVariants.{Left, Right, Queue, Parent, Turn}
 use Rattle.text.specs.Number.{decimal_of}
 use Rattle.text.proofs.Parting.{only_fields}
-use Rattle.command.specs.declared.command.Command.{Command}
+use Rattle.command.specs.Commands.{Command}
 use Rattle.command.specs.Names.{mode_named, station_named, input_named, class_of, free_word_of}
 use Rattle.command.specs.Lines.{words_of, fields_command, command_of}
 use Rattle.command.specs.Says.{SaysClass, SaysWord, mode_letter, station_letter, input_letter, Says, Spells}

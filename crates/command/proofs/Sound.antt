@@ -14,15 +14,16 @@ use Rattle.station.specs.declared.hold.Input.TheVariants.{Left, Right, Queue, Pa
 use Rattle.text.specs.Number.{decimal_of, hex_byte_of, hex_word_of}
 use Rattle.text.specs.Fields.{fields_of}
 use Rattle.text.proofs.Parting.{parted_fields}
-use Rattle.command.specs.declared.command.Command.{Command}
-use Rattle.command.specs.declared.command.Command.TheVariants.{Tree, Rule, Go, Send, Fire, Take, Owed}
+use Rattle.command.specs.declared.command.Command.{Command as Held}
+use Rattle.command.specs.Commands.{Command, meant}
+use Rattle.command.specs.Commands.Command.{Tree, Rule, Go, Send, Fire, Take, Owed}
 use Rattle.command.specs.declared.verbs.Verb.{Verb}
 use Rattle.command.specs.declared.verbs.Verb.TheVariants as verbs
 use Rattle.command.specs.Verbs.{verb_named}
 use Rattle.command.specs.Names.{mode_named, station_named, input_named, class_of, free_bits, free_word_of}
 use Rattle.command.specs.Letters.{route_of}
 use Rattle.command.specs.Packets.{packet_of}
-use Rattle.command.specs.Lines.{then_of, ended, words_of, tree_of, rule_of, send_of, fire_of, take_of, said_after, packed, fields_command, command_of}
+use Rattle.command.specs.Lines.{then_of, ended, words_of, tree_of, rule_of, send_of, fire_of, take_of, said_after, fields_command, command_of}
 use Rattle.command.specs.Says.{SaysClass, SaysWord, mode_letter, station_letter, input_letter, Says, Spells}
 use Rattle.command.specs.Says.Says.{says_tree, says_rule, says_go, says_send, says_fire, says_take, says_owed}
 use Rattle.command.proofs.SentWords.{never}
@@ -131,7 +132,7 @@ rule_said fs c e =
     (says_rule a b j k v low high low_key high_key class ra rb rj rk (class_is v class rv)))))))
 
 abbrev send_after_key : ℕ → Mode → ℕ → ℕ → List (List ℕ) → Option Command
-send_after_key n m r k fs = option_map (λ ws. Send n (packed (packet_of m r k ws))) (words_of fs)
+send_after_key n m r k fs = option_map (λ ws. Send n (packet_of m r k ws)) (words_of fs)
 
 abbrev send_after_route : ℕ → Mode → ℕ → List (List ℕ) → Option Command
 send_after_route n m r fs = then_of hex_byte_of fs (send_after_key n m r)
@@ -148,7 +149,7 @@ send_said fs c e =
     then_read (λ fs. Says (codes "send" ∷ n ∷ fs) c) mode_named fs (send_after_mode card) c e (λ m fs mode rm e.
     then_read (λ fs. Says (codes "send" ∷ n ∷ m ∷ fs) c) route_of fs (send_after_route card mode) c e (λ r fs route rr e.
     then_read (λ fs. Says (codes "send" ∷ n ∷ m ∷ r ∷ fs) c) hex_byte_of fs (send_after_key card mode route) c e (λ k fs key rk e.
-    mapped (λ ws. Send card (packed (packet_of mode route key ws))) (words_of fs) c e (λ ws are same.
+    mapped (λ ws. Send card (packet_of mode route key ws)) (words_of fs) c e (λ ws are same.
     subst (Says (codes "send" ∷ n ∷ m ∷ r ∷ k ∷ fs)) same
     (rw (mode_is m mode rm) (says_send n r k fs card mode route key ws rn (read_says_route r route rr) rk (words_are fs ws are))))))))
 
@@ -174,9 +175,9 @@ read_spelled : (line : List ℕ) (c : Command) → command_of line ≡ Some c �
 read_spelled line c e = read_by line c (leb (length line) 200) refl e
 
 -- an answer is spelled by the line, and what a line spells is the answer
-pub sound : (line : List ℕ) (r : Option Command) → r ≡ command_of line → IfSome r (Spells line)
+pub sound : (line : List ℕ) (r : Option Held) → option_map meant r ≡ command_of line → IfSome r (λ c. Spells line (meant c))
 sound line None e = tt
-sound line (Some c) e = read_spelled line c (sym e)
+sound line (Some c) e = read_spelled line (meant c) (sym e)
 
 pub complete : (line : List ℕ) (r : Option Command) → r ≡ command_of line → (c : Command) → Spells line c → r ≡ Some c
 complete line r e c s = e ∙ spelled_read line c s

@@ -1,7 +1,7 @@
 -- The lines of an input, and how they are read byte by byte. An input is a list of bytes, and a newline is the byte 10.
 use Rattle.std.specs.Prelude.{ℕ, ◌+◌, Bool, cond, List, [], ◌∷◌, ◌++◌, take, Some, None, Option, ◌==◌}
 use Rattle.std.specs.List.{slice_split}
-use Rattle.command.specs.declared.command.Command.{Command}
+use Rattle.command.specs.Commands.{Command}
 use Rattle.command.specs.Sizes.{longest_line}
 use Rattle.command.specs.Lines.{command_of}
 

@@ -1,3 +1,4 @@
+pub mod Commands
 pub mod Names
 pub mod Letters
 pub mod Packets

@@ -1,11 +1,10 @@
 -- The command of a line, field by field.
 use Rattle.std.specs.Prelude.{ℕ, cond, List, [], ◌∷◌, length, Some, None, Option, nat_le}
 use Rattle.std.specs.Option.{option_and_then, option_map}
-use Rattle.arrayvec.specs.ArrayVec.{ArrayVec}
 use Rattle.text.specs.Number.{decimal_of, hex_byte_of}
 use Rattle.text.specs.Fields.{fields_of, read_first, rest_of, none_left}
-use Rattle.command.specs.declared.command.Command.{Command}
-use Rattle.command.specs.declared.command.Command.TheVariants.{Tree, Rule, Go, Send, Fire, Take, Owed}
+use Rattle.command.specs.Commands.{Command}
+use Rattle.command.specs.Commands.Command.{Tree, Rule, Go, Send, Fire, Take, Owed}
 use Rattle.command.specs.declared.verbs.Verb.{Verb}
 use Rattle.command.specs.declared.verbs.Verb.TheVariants as verbs
 use Rattle.command.specs.Verbs.{verb_named}
@@ -41,10 +40,6 @@ rule_of fs =
     then_of class_of fs (λ v.
     ended (Rule (record { low = a; high = b }) (record { low = j; high = k }) v))))))
 
--- the words of a packet as a command has them
-abbrev pub packed : List ℕ → ArrayVec ℕ
-packed ws = record { items = ws }
-
 -- what follows `send`: C M R K W ..
 abbrev pub send_of : List (List ℕ) → Option Command
 send_of fs =
@@ -52,7 +47,7 @@ send_of fs =
     then_of mode_named fs (λ mode fs.
     then_of route_of fs (λ route fs.
     then_of hex_byte_of fs (λ key fs.
-    option_map (λ ws. Send card (packed (packet_of mode route key ws))) (words_of fs)))))
+    option_map (λ ws. Send card (packet_of mode route key ws)) (words_of fs)))))
 
 -- what follows `fire`: C S I
 abbrev pub fire_of : List (List ℕ) → Option Command

@@ -9,8 +9,8 @@ use Rattle.station.specs.declared.hold.Input.{Input}
 use Rattle.station.specs.declared.hold.Input.TheVariants.{Left, Right, Queue, Parent, Turn}
 use Rattle.text.specs.Number.{decimal_of, hex_byte_of, hex_word_of}
 use Rattle.text.specs.Parted.{Parted}
-use Rattle.command.specs.declared.command.Command.{Command}
-use Rattle.command.specs.declared.command.Command.TheVariants.{Tree, Rule, Go, Send, Fire, Take, Owed}
+use Rattle.command.specs.Commands.{Command}
+use Rattle.command.specs.Commands.Command.{Tree, Rule, Go, Send, Fire, Take, Owed}
 use Rattle.command.specs.Letters.{SaysRoute}
 use Rattle.command.specs.Packets.{packet_of}
 use Rattle.command.specs.Sizes.{longest_line, most_free}
@@ -49,7 +49,7 @@ pub data Says : List (List ℕ) → Command → Type 0 where
   says_go : Says (codes "go" ∷ []) Go
   says_send : (c r k : List ℕ) (ws : List (List ℕ)) (card : ℕ) (mode : Mode) (route key : ℕ) (words : List ℕ) →
       decimal_of c ≡ Some card → SaysRoute r route → hex_byte_of k ≡ Some key → AllZip SaysWord ws words →
-      Says (codes "send" ∷ c ∷ mode_letter mode ∷ r ∷ k ∷ ws) (Send card (record { items = packet_of mode route key words }))
+      Says (codes "send" ∷ c ∷ mode_letter mode ∷ r ∷ k ∷ ws) (Send card (packet_of mode route key words))
   says_fire : (c : List ℕ) (card : ℕ) (station : Station) (input : Input) → decimal_of c ≡ Some card →
       Says (codes "fire" ∷ c ∷ station_letter station ∷ input_letter input ∷ []) (Fire card station input)
   says_take : (c : List ℕ) (card : ℕ) → decimal_of c ≡ Some card → Says (codes "take" ∷ c ∷ []) (Take card)

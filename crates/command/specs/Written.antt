@@ -7,8 +7,8 @@ use Rattle.packet.specs.Routes.{route_width, route_bits}
 use Rattle.station.specs.declared.hold.Station.{Station}
 use Rattle.station.specs.declared.hold.Input.{Input}
 use Rattle.text.specs.Spelled.{decimal_text, hex_text, byte_text}
-use Rattle.command.specs.declared.command.Command.{Command}
-use Rattle.command.specs.declared.command.Command.TheVariants.{Tree, Rule, Go, Send, Fire, Take, Owed}
+use Rattle.command.specs.Commands.{Command}
+use Rattle.command.specs.Commands.Command.{Tree, Rule, Go, Send, Fire, Take, Owed}
 use Rattle.command.specs.Packets.{packet_of}
 use Rattle.command.specs.Sizes.{longest_line, most_free}
 use Rattle.command.specs.Lines.{command_of}
@@ -36,7 +36,7 @@ pub data Plain : List (List ℕ) → Command → Type 0 where
   plain_go : Plain (codes "go" ∷ []) Go
   plain_send : (card : ℕ) (mode : Mode) (route key : ℕ) (words : List ℕ) → card < 1000 → route < 2 ^ route_width → key < 2 ^ 8 → AllByRecursion (λ w. w ≤ most_free) words →
       Plain (codes "send" ∷ decimal_text card ∷ mode_letter mode ∷ route_text route ∷ byte_text false key ∷ map (hex_text false) words)
-      (Send card (record { items = packet_of mode route key words }))
+      (Send card (packet_of mode route key words))
   plain_fire : (card : ℕ) (station : Station) (input : Input) → card < 1000 →
       Plain (codes "fire" ∷ decimal_text card ∷ station_letter station ∷ input_letter input ∷ []) (Fire card station input)
   plain_take : (card : ℕ) → card < 1000 → Plain (codes "take" ∷ decimal_text card ∷ []) (Take card)

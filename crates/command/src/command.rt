@@ -2,14 +2,16 @@
 use arrayvec::ArrayVec;
 use licence::Span;
 use station::{Input, Station};
-use std::alloc::Global;
 
 // The most words that a send line can spell: a line has at most 200 bytes.
 pub const MOST_WORDS: usize = 95;
 
+// Room for the packet of a send line. It is lent to the reader, so that a command is small.
+pub type PacketRoom = ArrayVec<u32, MOST_WORDS>;
+
 // A command. A number is kept as it is written: whether there is such a card, class or number of levels is not asked here.
-#[derive(Drop)]
-pub enum Command {
+#[derive(Clone, Copy)]
+pub enum Command<'a> {
     Tree {
         levels: u16,
     },
@@ -22,7 +24,7 @@ pub enum Command {
     Go,
     Send {
         card: u16,
-        packet: ArrayVec<u32, MOST_WORDS>,
+        packet: &'a [u32],
     },
     Fire {
         card: u16,

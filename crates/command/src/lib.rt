@@ -9,7 +9,7 @@ mod reading;
 mod sending;
 mod verbs;
 
-pub use command::{Command, MOST_WORDS};
+pub use command::{Command, MOST_WORDS, PacketRoom};
 pub use letters::RouteLetters;
 pub use line_buffer::LineBuffer;
 pub use names::{Class, FreeWord, InputName, ModeName, StationName};

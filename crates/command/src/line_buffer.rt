@@ -1,10 +1,12 @@
 // The line that is being read.
 ghost use Rattle.std.specs.Prelude.{◌≡◌, ℕ, ◌+◌, ◌≤◌, List, [], ◌∷◌, ◌++◌, map, take};
+ghost use Rattle.std.specs.Option.{option_map};
+ghost use Rattle.command.specs.Commands.{meant};
 ghost use Rattle.command.specs.Lines.{command_of};
 ghost use Rattle.command.specs.Sizes.{longest_line};
 ghost use Rattle.command.specs.Inputs.{lines_of, said_at, kept_after, said_last, all_said};
 
-use crate::command::Command;
+use crate::command::{Command, PacketRoom};
 use crate::reading::{LONGEST_LINE, read};
 use std::marker::Model;
 
@@ -41,23 +43,23 @@ impl LineBuffer {
     }
 
     // Takes the next byte of the input. A newline makes known the command of the line before it, or that it is none.
-    pub fn feed(&mut self, byte: u8) -> Option<Option<Command>>
-        ensures said { result ≡ said_at self.old byte }
+    pub fn feed<'a>(&mut self, byte: u8, room: &'a mut PacketRoom) -> Option<Option<Command<'a>>>
+        ensures said { option_map (option_map meant) result ≡ said_at self.old byte }
         ensures kept { self.new ≡ kept_after self.old byte }
     {
         if byte != b'\n' {
             self.keep(byte);
             return None;
         }
-        Some(self.close())
+        Some(self.close(room))
     }
 
     // The command of the line that is kept, or that it is none. Nothing is kept afterwards.
-    fn close(&mut self) -> Option<Command>
-        ensures said { result ≡ command_of self.old }
+    fn close<'a>(&mut self, room: &'a mut PacketRoom) -> Option<Command<'a>>
+        ensures said { option_map meant result ≡ command_of self.old }
         ensures empty { self.new ≡ [] }
     {
-        let command = read(&self.bytes[..self.count]);
+        let command = read(&self.bytes[..self.count], room);
         self.count = 0;
         command
     }
@@ -74,14 +76,14 @@ impl LineBuffer {
     }
 
     // At the end of the input, the command of a last line without a newline, or that it is none. Nothing is kept afterwards.
-    pub fn last(&mut self) -> Option<Option<Command>>
-        ensures said { result ≡ said_last self.old }
+    pub fn last<'a>(&mut self, room: &'a mut PacketRoom) -> Option<Option<Command<'a>>>
+        ensures said { option_map (option_map meant) result ≡ said_last self.old }
         ensures empty { self.new ≡ [] }
     {
         if self.count == 0 {
             None
         } else {
-            Some(self.close())
+            Some(self.close(room))
         }
     }
 }

@@ -1,6 +1,6 @@
 -- An input that is fed byte by byte is answered as its lines are.
 use Rattle.std.proofs.Common.{◌≡◌, ℕ, List, [], ◌∷◌, Some, None, Option, refl, ap, ◌∙◌}
-use Rattle.command.specs.declared.command.Command.{Command}
+use Rattle.command.specs.Commands.{Command}
 use Rattle.command.specs.Inputs.{said_at, said_last, kept_after, followed, all_said}
 use Rattle.session.specs.Desks.{Desk, waiting}
 use Rattle.session.specs.Sessions.{answers}

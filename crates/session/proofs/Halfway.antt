@@ -1,7 +1,7 @@
 -- An input halfway: the lines that have ended, and what is still to be said.
 use Rattle.std.proofs.Common.{◌≡◌, ℕ, ◌+◌, ◌<◌, ◌≤◌, List, [], ◌∷◌, ◌++◌, length, drop, slice_index_or, Some, None, Option, sym, ap, ◌∙◌, rules}
 use Rattle.std.proofs.lemmas.List.{append_assoc, drop_all, drop_more}
-use Rattle.command.specs.declared.command.Command.{Command}
+use Rattle.command.specs.Commands.{Command}
 use Rattle.command.specs.Inputs.{said_at, said_last, kept_after, followed, all_said}
 use Rattle.session.specs.Desks.{Desk}
 use Rattle.session.specs.Conversations.{desk_after, KeepsOnIf}

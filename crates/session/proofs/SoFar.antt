@@ -1,8 +1,8 @@
 -- A session so far, and one command more.
-use Rattle.std.proofs.Common.{◌≡◌, ℕ, ◌+◌, ◌<◌, List, [], ◌∷◌, ◌++◌, Option, length, take, slice_index_or, refl, sym, ◌∙◌, ap, rules}
-use Rattle.std.proofs.lemmas.List.{take_more}
+use Rattle.std.proofs.Common.{◌≡◌, ℕ, ◌+◌, ◌<◌, List, [], ◌∷◌, ◌++◌, Option, length, map, take, slice_index_or, refl, sym, ◌∙◌, ap, rules}
+use Rattle.std.proofs.lemmas.List.{map_more}
 use Rattle.network.specs.Runs.{Call}
-use Rattle.command.specs.declared.command.Command.{Command}
+use Rattle.command.specs.Commands.{Command}
 use Rattle.session.specs.Desks.{Desk, waiting, ruling, running, heard}
 use Rattle.session.specs.Sessions.{CameBy, StandsBy, KeepsOn, call_made, after, calls_made}
 
@@ -34,6 +34,6 @@ one_more session k d d' far e keeps = record {
   laws = rw (calls_one waiting session k, ← far.next) (keeps _ (came _ d far.laws));
 }
 
-pub goes_on : (session : List (Option Command)) (i : ℕ) (k : Option Command) (d d' : Desk) → i < length session → k ≡ slice_index_or session i k →
-    SoFar (take i session) d → d' ≡ (heard d k).next → KeepsOn k d d' → SoFar (take (i + 1) session) d'
-goes_on session i k d d' l at far e keeps = rw (take_more session i k l, ← at) (one_more _ k d d' far e keeps)
+pub goes_on : {X : Type 0} (says : X → Option Command) (session : List X) (i : ℕ) (k : X) (d d' : Desk) → i < length session → SoFar (map says (take i session)) d →
+    d' ≡ (heard d (says (slice_index_or session i k))).next → KeepsOn (says (slice_index_or session i k)) d d' → SoFar (map says (take (i + 1) session)) d'
+goes_on says session i k d d' l far e keeps = rw (map_more says session i k l) (one_more _ (says (slice_index_or session i k)) d d' far e keeps)

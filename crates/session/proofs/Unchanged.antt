@@ -16,8 +16,8 @@ use Rattle.network.proofs.RefusedCalls.{refused_same}
 use Rattle.router.specs.Inner.{lowered, raised}
 use Rattle.router.specs.Kept.{Meaning, meaning}
 use Rattle.router.specs.Calls.{fire_answer, take_answer}
-use Rattle.command.specs.declared.command.Command.{Command}
-use Rattle.command.specs.declared.command.Command.TheVariants.{Tree, Rule, Go, Send, Fire, Take}
+use Rattle.command.specs.Commands.{Command}
+use Rattle.command.specs.Commands.Command.{Tree, Rule, Go, Send, Fire, Take}
 use Rattle.session.specs.declared.answer.Answer.TheVariants.{Done, Number, Word}
 use Rattle.session.specs.declared.fault.LineFault.{LineFault}
 use Rattle.session.specs.declared.fault.LineFault.TheVariants.{Packet as LinePacket, Fire as LineFire, Take as LineTake}
@@ -60,7 +60,7 @@ module _ (m : Meaning) where
   take_same c (Err g) q f e = ap (λ x. meaning m.shape m.verdicts x m.owed) (refused_same.take m.shape m.cards c g q)
 
   call_same : (k : Command) → Unchanged m (called m k)
-  call_same (Send c p) f e = send_same c p.items (send_way m.shape (length (card_at m.cards c).queue) c p.items) f e
+  call_same (Send c p) f e = send_same c p (send_way m.shape (length (card_at m.cards c).queue) c p) f e
   call_same (Fire c t i) f e = fire_same c t i (fire_answer c t i m) refl f e
   call_same (Take c) f e = take_same c (take_answer c m) refl f e
   call_same k f e = refl

@@ -1,6 +1,6 @@
 -- What an input comes to, byte by byte and as a whole.
 use Rattle.std.specs.Prelude.{ℕ, List, [], ◌∷◌, map, Some, None, Option, Result}
-use Rattle.command.specs.declared.command.Command.{Command}
+use Rattle.command.specs.Commands.{Command}
 use Rattle.command.specs.Lines.{command_of}
 use Rattle.command.specs.Inputs.{lines_of, said_at, said_last, kept_after, followed}
 use Rattle.session.specs.declared.answer.Answer.{Answer}

@@ -9,8 +9,8 @@ use Rattle.licence.specs.declared.verdict.Verdict.TheVariants.{Refuse, Class}
 use Rattle.licence.specs.Ranges.{RangeMeaning, range_of}
 use Rattle.router.specs.Kept.{Meaning}
 use Rattle.router.specs.Calls.{new_tree, send_answer, sent_tree, fire_answer, fired_tree, take_answer, took_tree}
-use Rattle.command.specs.declared.command.Command.{Command}
-use Rattle.command.specs.declared.command.Command.TheVariants.{Tree, Rule, Go, Send, Fire, Take, Owed}
+use Rattle.command.specs.Commands.{Command}
+use Rattle.command.specs.Commands.Command.{Tree, Rule, Go, Send, Fire, Take, Owed}
 use Rattle.session.specs.declared.answer.Answer.{Answer}
 use Rattle.session.specs.declared.answer.Answer.TheVariants.{Done, Number, Word}
 use Rattle.session.specs.declared.fault.LineFault.{LineFault}
@@ -62,7 +62,7 @@ laid_down shape rules (Err fault) = refused (ruling shape rules) (RuleFault faul
 
 -- `send`, `fire`, `take` and `owed` on the tree
 abbrev pub called : Meaning → Command → Outcome Meaning
-called m (Send card packet) = record { next = sent_tree card packet.items m; answer = answered (λ _. Done) PacketFault (send_answer card packet.items m) }
+called m (Send card packet) = record { next = sent_tree card packet m; answer = answered (λ _. Done) PacketFault (send_answer card packet m) }
 called m (Fire card station input) = record { next = fired_tree card station input m; answer = answered Number FireFault (fire_answer card station input m) }
 called m (Take card) = record { next = took_tree card m; answer = answered Word TakeFault (take_answer card m) }
 called m Owed = record { next = m; answer = Ok (Number m.owed) }

@@ -2,15 +2,15 @@
 use Rattle.std.specs.Prelude.{◌≡◌, List, [], ◌∷◌, ◌++◌, Some, Option, Err, Result}
 use Rattle.network.specs.Runs.{Call, send, fire, take, owed}
 use Rattle.router.specs.Kept.{Led, Stands}
-use Rattle.command.specs.declared.command.Command.{Command}
-use Rattle.command.specs.declared.command.Command.TheVariants.{Send, Fire, Take, Owed}
+use Rattle.command.specs.Commands.{Command}
+use Rattle.command.specs.Commands.Command.{Send, Fire, Take, Owed}
 use Rattle.session.specs.declared.answer.Answer.{Answer}
 use Rattle.session.specs.declared.fault.LineFault.{LineFault}
 use Rattle.session.specs.Desks.{Desk, running, heard}
 
 -- the call that a command makes on a tree, if it makes one
 abbrev pub call_of : Command → List Call
-call_of (Send card packet) = send card packet.items ∷ []
+call_of (Send card packet) = send card packet ∷ []
 call_of (Fire card station input) = fire card station input ∷ []
 call_of (Take card) = take card ∷ []
 call_of Owed = owed ∷ []

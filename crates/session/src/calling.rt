@@ -1,6 +1,7 @@
 // The calls on a tree that runs.
 ghost use Rattle.std.specs.Prelude.{◌≡◌, Some};
-ghost use Rattle.command.specs.declared.command.Command.TheVariants.{Fire};
+ghost use Rattle.command.specs.Commands.{meant};
+ghost use Rattle.command.specs.Commands.Command.{Fire};
 ghost use Rattle.session.specs.Desks.{running, called};
 ghost use Rattle.session.specs.Consoles.{tree_in};
 ghost use Rattle.session.specs.Sessions.{KeepsOn};
@@ -31,23 +32,23 @@ fn fire(
 // Makes the call that a command asks for. The other commands are for the parts before.
 pub(crate) fn call(
     tree: &mut Tree<FullTree, Rulebook>,
-    command: &Command,
+    command: Command,
 ) -> Result<Answer, LineFault>
-    ensures answer { result ≡ (called (tree_in tree.old) command.now).answer }
-    ensures next { tree_in tree.new ≡ (called (tree_in tree.old) command.now).next }
-    ensures laws { KeepsOn (Some command.now) (running (tree_in tree.old)) (running (tree_in tree.new)) }
+    ensures answer { result ≡ (called (tree_in tree.old) (meant command.entry)).answer }
+    ensures next { tree_in tree.new ≡ (called (tree_in tree.old) (meant command.entry)).next }
+    ensures laws { KeepsOn (Some (meant command.entry)) (running (tree_in tree.old)) (running (tree_in tree.new)) }
 {
     match command {
         Command::Send { card, packet } => {
-            tree.send(*card, packet.as_slice())?;
+            tree.send(card, packet)?;
             Ok(Answer::Done)
         }
         Command::Fire {
             card,
             station,
             input,
-        } => fire(tree, *card, *station, *input),
-        Command::Take { card } => Ok(Answer::Word(tree.take(*card)?)),
+        } => fire(tree, card, station, input),
+        Command::Take { card } => Ok(Answer::Word(tree.take(card)?)),
         Command::Owed => Ok(Answer::Number(tree.owed())),
         Command::Tree { .. } | Command::Rule { .. } | Command::Go => Err(LineFault::NotUnderstood),
     }

@@ -1,6 +1,8 @@
 // The console: it waits for a tree, then takes the rules, then the tree runs.
 ghost use Rattle.std.specs.Prelude.{◌≡◌, Some};
-ghost use Rattle.command.specs.declared.command.Command.TheVariants.{Tree as TreeOf, Go};
+ghost use Rattle.std.specs.Option.{option_map};
+ghost use Rattle.command.specs.Commands.{meant};
+ghost use Rattle.command.specs.Commands.Command.{Tree as TreeOf, Go};
 ghost use Rattle.session.specs.Desks.{waiting, obeyed, heard};
 ghost use Rattle.session.specs.Consoles.{desk_of};
 ghost use Rattle.session.specs.Sessions.{KeepsOn};
@@ -67,19 +69,19 @@ impl Console {
     }
 
     // Carries out a command, or refuses it and changes nothing.
-    pub fn obey(&mut self, command: &Command) -> Result<Answer, LineFault>
-        ensures answer { result ≡ (obeyed (desk_of self.old) command.now).answer }
-        ensures next { desk_of self.new ≡ (obeyed (desk_of self.old) command.now).next }
-        ensures laws { KeepsOn (Some command.now) (desk_of self.old) (desk_of self.new) }
+    pub fn obey(&mut self, command: Command) -> Result<Answer, LineFault>
+        ensures answer { result ≡ (obeyed (desk_of self.old) (meant command.entry)).answer }
+        ensures next { desk_of self.new ≡ (obeyed (desk_of self.old) (meant command.entry)).next }
+        ensures laws { KeepsOn (Some (meant command.entry)) (desk_of self.old) (desk_of self.new) }
     {
         match self {
             Console::Waiting => match command {
-                Command::Tree { levels } => self.begin(*levels),
+                Command::Tree { levels } => self.begin(levels),
                 _ => Err(LineFault::NotUnderstood),
             },
             Console::Ruling { rules, .. } => match command {
                 Command::Rule { cards, keys, class } => {
-                    add_rule(rules, *cards, *keys, *class)?;
+                    add_rule(rules, cards, keys, class)?;
                     Ok(Answer::Done)
                 }
                 Command::Go => self.go(),
@@ -90,10 +92,10 @@ impl Console {
     }
 
     // Answers a line, by the command that it says. A line that says none is not understood.
-    pub fn hear(&mut self, said: &Option<Command>) -> Result<Answer, LineFault>
-        ensures answer { result ≡ (heard (desk_of self.old) said.now).answer }
-        ensures next { desk_of self.new ≡ (heard (desk_of self.old) said.now).next }
-        ensures laws { KeepsOn said.now (desk_of self.old) (desk_of self.new) }
+    pub fn hear(&mut self, said: Option<Command>) -> Result<Answer, LineFault>
+        ensures answer { result ≡ (heard (desk_of self.old) (option_map meant said.entry)).answer }
+        ensures next { desk_of self.new ≡ (heard (desk_of self.old) (option_map meant said.entry)).next }
+        ensures laws { KeepsOn (option_map meant said.entry) (desk_of self.old) (desk_of self.new) }
     {
         match said {
             Some(command) => self.obey(command),

@@ -8,13 +8,14 @@ ghost use Rattle.session.specs.Conversations.{replied, desk_after, all_answered,
 use crate::answer::Answer;
 use crate::console::Console;
 use crate::fault::LineFault;
-use command::LineBuffer;
+use command::{LineBuffer, PacketRoom};
 
-// The console, and what is read of the next line.
+// The console, what is read of the next line, and room for the packet of a line that ends.
 #[derive(Drop)]
 pub struct Conversation {
     console: Console,
     line: LineBuffer,
+    packet: PacketRoom,
 }
 
 impl Conversation {
@@ -28,6 +29,7 @@ impl Conversation {
         Conversation {
             console: Console::new(),
             line: LineBuffer::new(),
+            packet: PacketRoom::new(),
         }
     }
 
@@ -38,8 +40,8 @@ impl Conversation {
         ensures line { self.new.line ≡ kept_after self.old.line byte }
         ensures laws { KeepsOnIf (said_at self.old.line byte) (desk_in self.old) (desk_in self.new) }
     {
-        let said = self.line.feed(byte)?;
-        Some(self.console.hear(&said))
+        let said = self.line.feed(byte, &mut self.packet)?;
+        Some(self.console.hear(said))
     }
 
     // At the end of the input: a last line without a newline is answered. Nothing is kept of it.
@@ -49,8 +51,8 @@ impl Conversation {
         ensures line { self.new.line ≡ [] }
         ensures laws { KeepsOnIf (said_last self.old.line) (desk_in self.old) (desk_in self.new) }
     {
-        let said = self.line.last()?;
-        Some(self.console.hear(&said))
+        let said = self.line.last(&mut self.packet)?;
+        Some(self.console.hear(said))
     }
 }
 

@@ -1,5 +1,5 @@
 // Lines of the console.
-use command::{Command, LineBuffer, read};
+use command::{Command, LineBuffer, PacketRoom, read};
 use station::{Input, Station};
 
 // A line of 200 bytes, and one of 201.
@@ -89,7 +89,10 @@ const NOT_UNDERSTOOD: [&[u8]; 52] = [
 
 // How many of these lines are commands.
 fn understood(lines: &[&[u8]]) -> usize {
-    lines.iter().filter(|line| read(line).is_some()).count()
+    lines
+        .iter()
+        .filter(|line| read(line, &mut PacketRoom::new()).is_some())
+        .count()
 }
 
 #[test]
@@ -100,15 +103,15 @@ fn tells_commands_from_other_lines(rt: HostRuntime) {
 
 // The words of the packet that a line sends.
 fn sends(line: &[u8], words: &[u32]) -> bool {
-    match read(line) {
-        Some(Command::Send { packet, .. }) => packet.as_slice() == words,
+    match read(line, &mut PacketRoom::new()) {
+        Some(Command::Send { packet, .. }) => packet == words,
         _ => false,
     }
 }
 
 // How many words the packet has that a line sends, or none where it sends none.
 fn words_sent(line: &[u8]) -> Option<usize> {
-    match read(line)? {
+    match read(line, &mut PacketRoom::new())? {
         Command::Send { packet, .. } => Some(packet.len()),
         _ => None,
     }
@@ -116,10 +119,16 @@ fn words_sent(line: &[u8]) -> Option<usize> {
 
 #[test]
 fn reads_what_a_line_says(rt: HostRuntime) {
-    assert!(rt; matches!(read(b"tree 007"), Some(Command::Tree { levels: 7 })));
+    let mut room = PacketRoom::new();
     assert!(rt;
         matches!(
-            read(b"fire 31 d p"),
+            read(b"tree 007", &mut room),
+            Some(Command::Tree { levels: 7 })
+        )
+    );
+    assert!(rt;
+        matches!(
+            read(b"fire 31 d p", &mut room),
             Some(Command::Fire {
                 card: 31,
                 station: Station::Down,
@@ -127,7 +136,7 @@ fn reads_what_a_line_says(rt: HostRuntime) {
             })
         )
     );
-    match read(b"rule 2 1 0a FF 256") {
+    match read(b"rule 2 1 0a FF 256", &mut room) {
         Some(Command::Rule { cards, keys, class }) => {
             assert!(rt; cards.low == 2 && cards.high == 1);
             assert!(rt; keys.low == 10 && keys.high == 255);
@@ -159,14 +168,15 @@ impl Said {
 
 fn said_of(input: &[u8]) -> Said {
     let mut buffer = LineBuffer::new();
+    let mut room = PacketRoom::new();
     let mut said = Said {
         commands: 0,
         others: 0,
     };
     for byte in input {
-        said.count(buffer.feed(*byte));
+        said.count(buffer.feed(*byte, &mut room));
     }
-    said.count(buffer.last());
+    said.count(buffer.last(&mut room));
     said
 }
 

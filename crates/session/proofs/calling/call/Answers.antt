@@ -1,4 +1,5 @@
 use Rattle.std.proofs.Common.{refl, arith}
+use Rattle.command.specs.Commands.{meant}
 use Rattle.session.specs.Sessions.{call_of}
 use Rattle.session.proofs.Standing.{stays}
 use Rattle.session.proofs.calling.call.Goals as goal
@@ -13,10 +14,10 @@ pub returns-in-Fire-clause-laws : goal.returns-in-Fire-clause-laws
 returns-in-Fire-clause-laws c = rw c.in-Fire.is c.fire.ensures.laws
 
 pub returns-in_err-send-in-Send-clause-laws : goal.returns-in_err-send-in-Send-clause-laws
-returns-in_err-send-in-Send-clause-laws c = rw (c.in-Send.is, ← c.as_slice.ensures.value) c.send.ensures.laws
+returns-in_err-send-in-Send-clause-laws c = rw c.in-Send.is c.send.ensures.laws
 
 pub returns-in_ok-send-in-Send-clause-laws : goal.returns-in_ok-send-in-Send-clause-laws
-returns-in_ok-send-in-Send-clause-laws c = rw (c.in-Send.is, ← c.as_slice.ensures.value) c.send.ensures.laws
+returns-in_ok-send-in-Send-clause-laws c = rw c.in-Send.is c.send.ensures.laws
 
 pub returns-in_err-take-in-Take-clause-laws : goal.returns-in_err-take-in-Take-clause-laws
 returns-in_err-take-in-Take-clause-laws c = rw c.in-Take.is c.take.ensures.laws
@@ -28,10 +29,4 @@ pub returns-in-Owed-clause-laws : goal.returns-in-Owed-clause-laws
 returns-in-Owed-clause-laws c = rw c.in-Owed.is c.owed.ensures.laws
 
 pub returns-in-Tree-clause-laws : goal.returns-in-Tree-clause-laws
-returns-in-Tree-clause-laws c = let i = c.in-Tree.is in stays _ c.args.tree.now.wiring refl (call_of c.args.command.now) (grind arith)
-
-pub returns-in-Tree-2-clause-laws : goal.returns-in-Tree-2-clause-laws
-returns-in-Tree-2-clause-laws c = let i = c.in-Tree.is in stays _ c.args.tree.now.wiring refl (call_of c.args.command.now) (grind arith)
-
-pub returns-in-Tree-3-clause-laws : goal.returns-in-Tree-3-clause-laws
-returns-in-Tree-3-clause-laws c = let i = c.in-Tree.is in stays _ c.args.tree.now.wiring refl (call_of c.args.command.now) (grind arith)
+returns-in-Tree-clause-laws c = let i = c.in-Tree.is in stays _ c.args.tree.now.wiring refl (call_of (meant c.args.command)) (grind arith)
