@@ -1,11 +1,13 @@
 -- An input that is read byte by byte says what its lines say.
-use Rattle.std.proofs.Common.{◌≡◌, ℕ, ◌+◌, ◌<◌, ◌≤◌, Bool, true, false, cond, leb, List, [], ◌∷◌, ◌++◌, length, take, map, set, Some, None, refl, sym, ap, ◌∙◌, arith, rules, append_assoc, append-nil, ap₂, length-append, length-take}
+use Rattle.std.proofs.Common.{◌≡◌, ℕ, zero, suc, ◌+◌, ◌<◌, ◌≤◌, Bool, true, false, cond, leb, List, [], ◌∷◌, ◌++◌, length, take, drop, map, set, Some, None, Option, refl, sym, ap, ◌∙◌, arith, rules, append_assoc, append-nil, ap₂, length-append, length-take}
 use Rattle.std.specs.List.{slice_split, onto_first}
 use Rattle.std.proofs.lemmas.Bool.Decides.{nat_tests}
 use Rattle.std.proofs.lemmas.List.{take_all, take-append-le, take_more_set}
 use Rattle.std.proofs.lemmas.List.Splits.{length-slice_split}
 use Rattle.command.specs.Lines.{command_of}
-use Rattle.command.specs.Inputs.{is_newline, unless_last_empty, lines_of, said_last, followed, all_said}
+use Rattle.command.specs.Commands.{Command}
+use Rattle.memchr.specs.Find.{IsFirst, Passes, is_byte}
+use Rattle.command.specs.Inputs.{is_newline, unless_last_empty, lines_of, kept_with, kept_with_all, Fed, fed, said_last, followed, all_said}
 
 -- a byte is put at the end of those that are kept, while there is room
 pub keep_room : (bs : List ℕ) (n b : ℕ) → n < 201 → length bs ≡ 201 → take (n + 1) (set bs n b) ≡ take 201 (take n bs ++ b ∷ [])
@@ -87,3 +89,63 @@ pub input_said : (input : List ℕ) → all_said [] input ≡ map command_of (li
 input_said input =
     let some : 0 < length (slice_split is_newline input) = omega (arith, length-slice_split is_newline input) in
     all_after [] input ∙ ap (λ ls. map command_of (unless_last_empty ls)) (before_nothing (slice_split is_newline input) some)
+
+-- A line that is read where it stands is the line that would be kept.
+kept_front : (p bs : List ℕ) → kept_with_all (take 201 p) bs ≡ take 201 (p ++ bs)
+kept_front p [] = ap (take 201) (sym (append-nil p))
+kept_front p (b ∷ bs) =
+    ap (λ kept. kept_with_all kept bs) (cut_more p b) ∙ (kept_front (p ++ b ∷ []) bs ∙ ap (take 201) (append_assoc p (b ∷ []) bs))
+
+pub whole_line : (bs : List ℕ) → command_of (kept_with_all [] bs) ≡ command_of bs
+whole_line bs = ap command_of (kept_front [] bs) ∙ cut_says bs
+
+-- bytes with no newline among them
+abbrev part : List ℕ → List ℕ → Fed
+part kept bs = record { said = None; kept = kept_with_all kept bs; left = [] }
+
+pub fed_part : (kept bs : List ℕ) → IsFirst (Passes (is_byte 10) bs) 0 (length bs) None → fed kept bs ≡ part kept bs
+fed_part kept [] none = refl
+fed_part kept (b ∷ bs) none = by (is_newline b) refl (fed_part (kept_with kept b) bs (λ k low high. none (suc k) (omega arith) (omega arith)))
+  where
+    by : (n : Bool) → is_newline b ≡ n → fed (kept_with kept b) bs ≡ part (kept_with kept b) bs → fed kept (b ∷ bs) ≡ part kept (b ∷ bs)
+    by true e more = absurd (none 0 (omega arith) (omega arith) e)
+    by false e more = rw e more
+
+-- bytes whose first newline is the one at i
+abbrev line : List ℕ → List ℕ → ℕ → Fed
+line kept bs i = record { said = Some (command_of (kept_with_all kept (take i bs))); kept = []; left = drop (suc i) bs }
+
+first_line : (kept bs : List ℕ) (i : ℕ) → IsFirst (Passes (is_byte 10) bs) 0 (length bs) (Some i) → fed kept bs ≡ line kept bs i
+first_line kept [] i first = absurd (omega (arith, first.0.high))
+first_line kept (b ∷ bs) zero first = rw first.1 refl
+first_line kept (b ∷ bs) (suc i) first =
+    by (is_newline b) refl (first_line (kept_with kept b) bs i (
+      record { low = omega arith; high = omega (arith, first.0.high); before = λ k low high. first.0.before (suc k) (omega arith) (omega arith) },
+      first.1,
+    ))
+  where
+    by : (n : Bool) → is_newline b ≡ n → fed (kept_with kept b) bs ≡ line (kept_with kept b) bs i → fed kept (b ∷ bs) ≡ line kept (b ∷ bs) (suc i)
+    by true e more = absurd (first.0.before 0 (omega arith) (omega arith) e)
+    by false e more = rw e more
+
+pub fed_line : (kept bs : List ℕ) (i : ℕ) → IsFirst (Passes (is_byte 10) bs) 0 (length bs) (Some i) →
+    fed kept bs ≡ record { said = Some (command_of (kept_with_all kept (take i bs))); kept = []; left = drop (i + 1) bs }
+fed_line kept bs i first = let next : i + 1 ≡ suc i = omega arith in rw next (first_line kept bs i first)
+
+abbrev on : List ℕ → Fed → List (Option Command)
+on more f = followed f.said (all_said f.kept (f.left ++ more))
+
+on_fed : (kept bs more : List ℕ) → all_said kept (bs ++ more) ≡ on more (fed kept bs)
+on_fed kept [] more = refl
+on_fed kept (b ∷ bs) more =
+    elim (is_newline b) as (λ newline.
+    followed (cond newline (Some (command_of kept)) None) (all_said (cond newline [] (kept_with kept b)) (bs ++ more)) ≡
+    on more (cond newline (record { said = Some (command_of kept); kept = []; left = bs }) (fed (kept_with kept b) bs))) [
+      | true ↦ refl
+      | false ↦ on_fed (kept_with kept b) bs more
+    ]
+
+-- what is said from here on is what is said now, and then what is said of the bytes that are left and those after them
+pub fed_on : (kept bs more : List ℕ) (said : Option (Option Command)) (kept' left : List ℕ) →
+    said ≡ (fed kept bs).said → kept' ≡ (fed kept bs).kept → left ≡ (fed kept bs).left → all_said kept (bs ++ more) ≡ followed said (all_said kept' (left ++ more))
+fed_on kept bs more said kept' left s k l = rw (s, k, l) (on_fed kept bs more)

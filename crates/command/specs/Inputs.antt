@@ -19,9 +19,18 @@ unless_last_empty (l ∷ m ∷ ls) = l ∷ unless_last_empty (m ∷ ls)
 abbrev pub lines_of : List ℕ → List (List ℕ)
 lines_of input = unless_last_empty (slice_split is_newline input)
 
--- What is kept of a line after one more byte of the input: its first bytes, enough to tell that it is too long.
+-- What is kept of a line with one more byte: its first bytes, enough to tell that it is too long.
+abbrev pub kept_with : List ℕ → ℕ → List ℕ
+kept_with kept b = take (longest_line + 1) (kept ++ b ∷ [])
+
+-- the same with each of these bytes, one after another
+abbrev pub kept_with_all : List ℕ → List ℕ → List ℕ
+kept_with_all kept [] = kept
+kept_with_all kept (b ∷ bs) = kept_with_all (kept_with kept b) bs
+
+-- what is kept after one more byte of the input
 abbrev pub kept_after : List ℕ → ℕ → List ℕ
-kept_after kept b = cond (is_newline b) [] (take (longest_line + 1) (kept ++ b ∷ []))
+kept_after kept b = cond (is_newline b) [] (kept_with kept b)
 
 -- a newline makes known what the line says
 abbrev pub said_at : List ℕ → ℕ → Option (Option Command)
@@ -31,6 +40,17 @@ said_at kept b = cond (is_newline b) (Some (command_of kept)) None
 abbrev pub said_last : List ℕ → Option (Option Command)
 said_last [] = None
 said_last (b ∷ bs) = Some (command_of (b ∷ bs))
+
+-- What comes of bytes of the input that are read up to their first newline: what is said, what is kept then, and which bytes are left.
+pub record Fed : Type 0 where
+  pub said : Option (Option Command)
+  pub kept : List ℕ
+  pub left : List ℕ
+
+-- byte by byte
+abbrev pub fed : List ℕ → List ℕ → Fed
+fed kept [] = record { said = None; kept = kept; left = [] }
+fed kept (b ∷ bs) = cond (is_newline b) (record { said = Some (command_of kept); kept = []; left = bs }) (fed (kept_with kept b) bs)
 
 -- what is said, if anything, and then the rest
 abbrev pub followed : {X : Type 0} → Option X → List X → List X

@@ -1,13 +1,14 @@
 // The line that is being read.
-ghost use Rattle.std.specs.Prelude.{◌≡◌, ℕ, ◌+◌, ◌≤◌, List, [], ◌∷◌, ◌++◌, map, take};
+ghost use Rattle.std.specs.Prelude.{◌≡◌, ℕ, ◌+◌, ◌≤◌, List, [], ◌∷◌, ◌++◌, map, take, length, IfSome, IfNone, ◌<◌};
 ghost use Rattle.std.specs.Option.{option_map};
 ghost use Rattle.command.specs.Commands.{meant};
 ghost use Rattle.command.specs.Lines.{command_of};
 ghost use Rattle.command.specs.Sizes.{longest_line};
-ghost use Rattle.command.specs.Inputs.{lines_of, said_at, kept_after, said_last, all_said};
+ghost use Rattle.command.specs.Inputs.{lines_of, kept_with, kept_with_all, fed, said_last, followed, all_said};
 
 use crate::command::{Command, PacketRoom};
 use crate::reading::{LONGEST_LINE, read};
+use memchr::memchr;
 use std::marker::Model;
 
 // One byte more than a line may have, so that a longer line is known as one.
@@ -42,16 +43,45 @@ impl LineBuffer {
         }
     }
 
-    // Takes the next byte of the input. A newline makes known the command of the line before it, or that it is none.
-    pub fn feed<'a>(&mut self, byte: u8, room: &'a mut PacketRoom) -> Option<Option<Command<'a>>>
-        ensures said { option_map (option_map meant) result ≡ said_at self.old byte }
-        ensures kept { self.new ≡ kept_after self.old byte }
+    // Takes bytes of the input up to their first newline, or all of them. The newline makes known the command of the line before it, or that it is none.
+    pub fn feed<'a>(
+        &mut self,
+        input: &mut &[u8],
+        room: &'a mut PacketRoom,
+    ) -> Option<Option<Command<'a>>>
+        ensures said { option_map (option_map meant) result ≡ (fed self.old input.old.now).said }
+        ensures kept { self.new ≡ (fed self.old input.old.now).kept }
+        ensures left { input.new.now ≡ (fed self.old input.old.now).left }
+        ensures shorter { IfSome result (λ _. length input.new.now < length input.old.now) }
+        ensures taken { IfNone result (input.new.now ≡ []) }
+        ensures onward { (more : List ℕ) → all_said self.old (input.old.now ++ more)
+            ≡ followed (option_map (option_map meant) result) (all_said self.new (input.new.now ++ more)) }
     {
-        if byte != b'\n' {
-            self.keep(byte);
-            return None;
+        let bytes = *input;
+        match memchr(b'\n', bytes) {
+            Some(end) => {
+                *input = &bytes[end + 1..];
+                Some(self.end(&bytes[..end], room))
+            }
+            None => {
+                *input = &bytes[bytes.len()..];
+                self.keep(bytes);
+                None
+            }
         }
-        Some(self.close(room))
+    }
+
+    // The command of the line that ends with these bytes, or that it is none. Nothing is kept afterwards. A line that stands whole in the input is read there.
+    #[tactic(auto, using(crate::proofs::Feeding::whole_line))]
+    fn end<'a>(&mut self, bytes: &[u8], room: &'a mut PacketRoom) -> Option<Command<'a>>
+        ensures said { option_map meant result ≡ command_of (kept_with_all self.old bytes.now) }
+        ensures empty { self.new ≡ [] }
+    {
+        if self.count != 0 {
+            self.keep(bytes);
+            return self.close(room);
+        }
+        read(bytes, room)
     }
 
     // The command of the line that is kept, or that it is none. Nothing is kept afterwards.
@@ -64,10 +94,19 @@ impl LineBuffer {
         command
     }
 
+    // Keeps these bytes too, as far as there is room.
+    fn keep(&mut self, bytes: &[u8])
+        ensures { self.new ≡ kept_with_all self.old bytes.now }
+    {
+        for byte in bytes {
+            self.keep_byte(*byte);
+        }
+    }
+
     // Keeps one byte more, if there is room.
     #[tactic(auto, using(crate::proofs::Feeding::keep_room, crate::proofs::Feeding::keep_full))]
-    fn keep(&mut self, byte: u8)
-        ensures { self.new ≡ take (longest_line + 1) (self.old ++ byte ∷ []) }
+    fn keep_byte(&mut self, byte: u8)
+        ensures { self.new ≡ kept_with self.old byte }
     {
         if self.count < ROOM {
             self.bytes[self.count] = byte;

@@ -23,10 +23,9 @@ struct Terminal<O, E> {
 impl<O: Write, E: Write> Terminal<O, E> {
     // Takes the bytes that came, and writes the answer of each line that they end.
     fn feed(&mut self, bytes: &[u8]) -> io::Result<()> {
-        for byte in bytes {
-            if let Some(answer) = self.conversation.feed(*byte) {
-                self.write(answer)?;
-            }
+        let mut left = bytes;
+        while let Some(answer) = self.conversation.feed(&mut left) {
+            self.write(answer)?;
         }
         self.out.flush()
     }

@@ -1,8 +1,9 @@
 -- An input halfway: the lines that have ended, and what is still to be said.
-use Rattle.std.proofs.Common.{◌≡◌, ℕ, ◌+◌, ◌<◌, ◌≤◌, List, [], ◌∷◌, ◌++◌, length, drop, slice_index_or, Some, None, Option, sym, ap, ◌∙◌, rules}
-use Rattle.std.proofs.lemmas.List.{append_assoc, drop_all, drop_more}
+use Rattle.std.proofs.Common.{◌≡◌, ℕ, List, [], ◌∷◌, ◌++◌, Some, None, Option, refl, sym, ap, ◌∙◌, append-nil, rules}
+use Rattle.std.proofs.lemmas.List.{append_assoc}
 use Rattle.command.specs.Commands.{Command}
-use Rattle.command.specs.Inputs.{said_at, said_last, kept_after, followed, all_said}
+use Rattle.command.specs.Inputs.{fed, said_last, followed, all_said}
+use Rattle.command.proofs.Feeding.{fed_on}
 use Rattle.session.specs.Desks.{Desk}
 use Rattle.session.specs.Conversations.{desk_after, KeepsOnIf}
 use Rattle.session.proofs.SoFar.{SoFar, one_more}
@@ -22,20 +23,18 @@ module _ (said ended : List (Option Command)) (d d' : Desk) (far : SoFar ended d
   onward None e s k = (ended, rw s far, e)
   onward (Some x) e s k = (ended ++ (x ∷ []), one_more ended x d d' far s k, e ∙ sym (append_assoc ended (x ∷ []) xs))
 
-pub next_byte : (said : List (Option Command)) (input line line' : List ℕ) (i : ℕ) (d d' : Desk) → i < length input → Halfway said line (drop i input) d →
-    line' ≡ kept_after line (slice_index_or input i 0) → d' ≡ desk_after d (said_at line (slice_index_or input i 0)) →
-    KeepsOnIf (said_at line (slice_index_or input i 0)) d d' → Halfway said line' (drop (i + 1) input) d'
+pub next_bytes : (said : List (Option Command)) (line bs line' left : List ℕ) (d d' : Desk) → Halfway said line bs d →
+    line' ≡ (fed line bs).kept → left ≡ (fed line bs).left → d' ≡ desk_after d (fed line bs).said → KeepsOnIf (fed line bs).said d d' → Halfway said line' left d'
 unfolding Onward
-next_byte said input line line' i d d' less h l s k =
-    let b = slice_index_or input i 0 in
-    let e : said ≡ h.ended ++ all_said line (b ∷ drop (i + 1) input) = h.left ∙ ap (λ r. h.ended ++ all_said line r) (drop_more input i 0 less) in
-    let o = onward said h.ended d d' h.far (all_said (kept_after line b) (drop (i + 1) input)) (said_at line b) e s k in
-    record { ended = o.0; far = o.1; left = rw l o.2 }
+next_bytes said line bs line' left d d' h l r s k =
+    let all : all_said line bs ≡ followed (fed line bs).said (all_said line' left) = simp append-nil at (fed_on line bs [] (fed line bs).said line' left refl l r) in
+    let o = onward said h.ended d d' h.far (all_said line' left) (fed line bs).said (h.left ∙ ap (λ xs. h.ended ++ xs) all) s k in
+    record { ended = o.0; far = o.1; left = o.2 }
 
-pub last_line : (said : List (Option Command)) (input line : List ℕ) (i : ℕ) (d d' : Desk) → length input ≤ i → Halfway said line (drop i input) d →
+pub last_line : (said : List (Option Command)) (line left : List ℕ) (d d' : Desk) → left ≡ [] → Halfway said line left d →
     d' ≡ desk_after d (said_last line) → KeepsOnIf (said_last line) d d' → SoFar said d'
 unfolding Onward
-last_line said input line i d d' out h s k =
-    let e : said ≡ h.ended ++ all_said line [] = h.left ∙ ap (λ r. h.ended ++ all_said line r) (drop_all i input out) in
+last_line said line left d d' none h s k =
+    let e : said ≡ h.ended ++ all_said line [] = h.left ∙ ap (λ r. h.ended ++ all_said line r) none in
     let o = onward said h.ended d d' h.far [] (said_last line) e s k in
     let f : said ≡ o.0 = o.2 ∙ search rules in rw f o.1

@@ -1,6 +1,6 @@
-// The console and its lines: an input is fed byte by byte, and each line is answered as it ends.
-ghost use Rattle.std.specs.Prelude.{◌≡◌, ℕ, List, []};
-ghost use Rattle.command.specs.Inputs.{said_at, said_last, kept_after, all_said};
+// The console and its lines: an input is fed in parts, and each line is answered as it ends.
+ghost use Rattle.std.specs.Prelude.{◌≡◌, ◌<◌, ℕ, List, [], ◌++◌, length, IfSome, IfNone};
+ghost use Rattle.command.specs.Inputs.{fed, said_last, all_said, followed};
 ghost use Rattle.session.specs.Desks.{waiting};
 ghost use Rattle.session.specs.Sessions.{StandsBy, after, answers, calls_made};
 ghost use Rattle.session.specs.Conversations.{replied, desk_after, all_answered, KeepsOnIf, desk_in, said_in};
@@ -33,14 +33,19 @@ impl Conversation {
         }
     }
 
-    // Takes the next byte. A newline ends a line, which is answered.
-    pub fn feed(&mut self, byte: u8) -> Option<Result<Answer, LineFault>>
-        ensures answer { result ≡ replied (desk_in self.old) (said_at self.old.line byte) }
-        ensures next { desk_in self.new ≡ desk_after (desk_in self.old) (said_at self.old.line byte) }
-        ensures line { self.new.line ≡ kept_after self.old.line byte }
-        ensures laws { KeepsOnIf (said_at self.old.line byte) (desk_in self.old) (desk_in self.new) }
+    // Takes bytes of the input up to their first newline, or all of them. The newline ends a line, which is answered.
+    pub fn feed(&mut self, input: &mut &[u8]) -> Option<Result<Answer, LineFault>>
+        ensures answer { result ≡ replied (desk_in self.old) (fed self.old.line input.old.now).said }
+        ensures next { desk_in self.new ≡ desk_after (desk_in self.old) (fed self.old.line input.old.now).said }
+        ensures line { self.new.line ≡ (fed self.old.line input.old.now).kept }
+        ensures left { input.new.now ≡ (fed self.old.line input.old.now).left }
+        ensures laws { KeepsOnIf (fed self.old.line input.old.now).said (desk_in self.old) (desk_in self.new) }
+        ensures shorter { IfSome result (λ _. length input.new.now < length input.old.now) }
+        ensures taken { IfNone result (input.new.now ≡ []) }
+        ensures onward { (more : List ℕ) → all_answered (desk_in self.old) self.old.line (input.old.now ++ more)
+            ≡ followed result (all_answered (desk_in self.new) self.new.line (input.new.now ++ more)) }
     {
-        let said = self.line.feed(byte, &mut self.packet)?;
+        let said = self.line.feed(input, &mut self.packet)?;
         Some(self.console.hear(said))
     }
 
@@ -62,9 +67,8 @@ pub fn converse(input: &[u8]) -> Conversation
     ensures laws { StandsBy (calls_made waiting (said_in input.now)) (desk_in result) }
 {
     let mut conversation = Conversation::new();
-    for byte in input {
-        let _ = conversation.feed(*byte);
-    }
+    let mut left = input;
+    while conversation.feed(&mut left).is_some() {}
     let _ = conversation.end();
     conversation
 }

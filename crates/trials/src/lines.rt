@@ -149,7 +149,7 @@ fn reads_what_a_line_says(rt: HostRuntime) {
     assert_eq!(rt; words_sent(LONGEST), Some(95));
 }
 
-// What a buffer says of an input.
+// What a buffer says of an input that comes in parts.
 #[derive(Clone, Copy, PartialEq, Eq, Debug)]
 struct Said {
     commands: usize,
@@ -166,15 +166,18 @@ impl Said {
     }
 }
 
-fn said_of(input: &[u8]) -> Said {
+fn said_of(parts: &[&[u8]]) -> Said {
     let mut buffer = LineBuffer::new();
     let mut room = PacketRoom::new();
     let mut said = Said {
         commands: 0,
         others: 0,
     };
-    for byte in input {
-        said.count(buffer.feed(*byte, &mut room));
+    for part in parts {
+        let mut left = *part;
+        while let Some(line) = buffer.feed(&mut left, &mut room) {
+            said.count(Some(line));
+        }
     }
     said.count(buffer.last(&mut room));
     said
@@ -183,28 +186,35 @@ fn said_of(input: &[u8]) -> Said {
 #[test]
 fn answers_each_line(rt: HostRuntime) {
     assert_eq!(rt;
-        said_of(b""),
+        said_of(&[]),
         Said {
             commands: 0,
             others: 0
         }
     );
     assert_eq!(rt;
-        said_of(b"\n"),
+        said_of(&[b"\n"]),
         Said {
             commands: 0,
             others: 1
         }
     );
     assert_eq!(rt;
-        said_of(b"go\nowed"),
+        said_of(&[b"go\nowed"]),
         Said {
             commands: 2,
             others: 0
         }
     );
     assert_eq!(rt;
-        said_of(b"go\r\n\n\xff\nowed\n"),
+        said_of(&[b"g", b"o\now", b"", b"ed", b"\n\n"]),
+        Said {
+            commands: 2,
+            others: 1
+        }
+    );
+    assert_eq!(rt;
+        said_of(&[b"go\r\n\n\xff\nowed\n"]),
         Said {
             commands: 1,
             others: 3
@@ -214,7 +224,7 @@ fn answers_each_line(rt: HostRuntime) {
     long[497] = b'\n';
     long[499] = b'o';
     assert_eq!(rt;
-        said_of(&long),
+        said_of(&[&long]),
         Said {
             commands: 1,
             others: 1
