@@ -15,11 +15,12 @@ use wiring::Wiring;
 
 impl<W: Wiring, P: Policy> Tree<W, P> {
     // The card of this number, if the tree has it.
+    #[tactic(auto, using(crate::proofs::Inside::card_inside))]
     pub(crate) fn card(&self, number: u16) -> Option<CardId>
         ensures { result ≡ card_in (W.shape self.now.wiring) number }
     {
         if number < self.wiring.cards() {
-            CardId::new(number)
+            Some(CardId::new(number))
         } else {
             None
         }
@@ -30,9 +31,9 @@ impl<W: Wiring, P: Policy> Tree<W, P> {
     fn daughter(&self, card: CardId, side: Side) -> Option<CardId>
         ensures { result ≡ (W.shape self.now.wiring).daughter side card }
     {
-        self.wiring
-            .daughter(card.number(), side)
-            .and_then(CardId::new)
+        // No closure, in which the bound would not be known.
+        let number = self.wiring.daughter(card.number(), side)?;
+        Some(CardId::new(number))
     }
 
     // The channel at an input.

@@ -1,5 +1,5 @@
 // The number of a card.
-ghost use Rattle.std.specs.Prelude.{◌≡◌, ℕ, ◌<◌, ◌↔◌, IsSome, IfSome};
+ghost use Rattle.std.specs.Prelude.{◌≡◌, ℕ, ◌<◌};
 
 use std::marker::Model;
 
@@ -21,16 +21,13 @@ impl Model for CardId {
 }
 
 impl CardId {
-    // None above 30. An `if` and no `then`, in whose closure the bound would not be known.
-    pub fn new(number: u16) -> Option<CardId>
-        ensures few { IsSome result ↔ (number < 31) }
-        ensures same { IfSome result (λ c. c ≡ number) }
+    // No test: this crate is no entry point, and its callers know by the laws of a wiring that a card's number is below 31.
+    #[inline(always)]
+    pub fn new(number: u16) -> CardId
+        requires { number < 31 }
+        ensures { result ≡ number }
     {
-        if number < 31 {
-            Some(CardId { number })
-        } else {
-            None
-        }
+        CardId { number }
     }
 
     pub fn number(self) -> u16
