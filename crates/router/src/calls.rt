@@ -11,18 +11,20 @@ ghost use Rattle.router.specs.Calls.{new_tree, send_answer, sent_tree, fire_answ
 use crate::tree::Tree;
 use licence::Policy;
 use refusal::{FireFault, PacketFault, TakeFault};
+use routing::Measured;
 use station::{Input, Station};
 use store::Table;
 use wiring::Wiring;
 
 impl<W: Wiring, P: Policy> Tree<W, P> {
     // Sets up an empty tree.
+    #[inline(always)]
     pub fn new(wiring: W, policy: P) -> Tree<W, P>
         ensures tree { tree_of W.shape P.verdict result ≡ new_tree (W.shape wiring) (P.verdict policy) }
         ensures laws { Stands [] (tree_of W.shape P.verdict result) }
     {
         Tree {
-            wiring,
+            wiring: Measured::new(wiring),
             policy,
             table: Table::empty(),
             owed: 0,

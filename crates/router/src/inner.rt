@@ -32,7 +32,7 @@ impl<W: Wiring, P: Policy> Tree<W, P> {
         ensures { result ≡ (W.shape self.now.wiring).daughter side card }
     {
         // No closure, in which the bound would not be known.
-        let number = self.wiring.daughter(card.number(), side)?;
+        let number = self.wiring.daughter_at(card.number(), side)?;
         Some(CardId::new(number))
     }
 
@@ -55,7 +55,7 @@ impl<W: Wiring, P: Policy> Tree<W, P> {
             (Station::Up, Input::Queue) => Some(Channel::Queued(card)),
             (Station::Down, Input::Parent) => {
                 self.wiring
-                    .parent(card.number())
+                    .parent_at(card.number())
                     .map(|_| Channel::DownLink(card))
             }
             (Station::Down, Input::Turn) => Some(Channel::TurnLink(card)),

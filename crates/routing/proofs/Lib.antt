@@ -6,4 +6,5 @@ pub mod Ordering
 pub mod Computed
 pub mod Examples
 pub mod Unique
-mod Marks
+pub mod Splitting
+mod Sizes

@@ -25,6 +25,11 @@ covers s t d = covers_in s s.cards t d
 abbrev pub covers_all : Shape → ℕ → List ℕ → Bool
 covers_all s t cs = list_all (covers s t) cs
 
+-- the number that goes with the daughter; 0 where there is none
+abbrev pub of_daughter : (ℕ → ℕ) → Option ℕ → ℕ
+of_daughter f None = 0
+of_daughter f (Some d) = f d
+
 -- how many numbers below n pass the test
 unfoldable pub count_below : ℕ → (ℕ → Bool) → ℕ
 count_below zero f = 0
