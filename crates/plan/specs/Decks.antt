@@ -1,6 +1,7 @@
 -- What the lines of a deck are answered, and what stands afterwards.
 use Rattle.std.specs.Prelude.{◌≡◌, ℕ, List, [], ◌∷◌, ◌++◌, codes, decimal, Some, None, Ok, Err, Option, Result}
 use Rattle.std.specs.Io.KnownBytes.{Appends}
+use Rattle.std.specs.List.{FoldsTo}
 use Rattle.wiring.specs.Shapes.{Shape}
 use Rattle.wiring.specs.declared.cabinets.Cabinet.{Cabinet}
 use Rattle.wiring.specs.Cabinets.{cabinet_shape}
@@ -11,8 +12,9 @@ use Rattle.planner.specs.Cabinets.{FrameAnswered, cabinet_told}
 use Rattle.planner.specs.Answers.{OrderAnswered}
 use Rattle.planner.specs.Texts.{plan_text, fault_text}
 use Rattle.plan.specs.declared.Tally.{Tally}
-use Rattle.plan.specs.Tallies.{one_planned, one_refused}
+use Rattle.plan.specs.Tallies.{tally_text, one_planned, one_refused}
 use Rattle.plan.specs.declared.Deck.{Deck}
+use Rattle.plan.specs.Inputs.{lines_of}
 
 -- the text as a line
 abbrev pub line_text : List ℕ → List ℕ
@@ -64,6 +66,20 @@ module _ {O : Type 0} (contents : O → Option (List ℕ)) where
     pub answered : OrderAnswered shape line answer
     pub told : Printed (order_text answer) before.cabinet (order_counted before.tally answer) before after
 
-  abbrev pub LineTold : Option Cabinet → List ℕ → Deck O → Deck O → Type 0
-  LineTold None line before after = WiringTold line before after
-  LineTold (Some c) line before after = OrderTold (cabinet_shape c) line before after
+  abbrev pub ToldBy : Option Cabinet → List ℕ → Deck O → Deck O → Type 0
+  ToldBy None line before after = WiringTold line before after
+  ToldBy (Some c) line before after = OrderTold (cabinet_shape c) line before after
+
+  -- a line is answered by the wiring that stands
+  abbrev pub LineTold : Deck O → List ℕ → Deck O → Type 0
+  LineTold before line after = ToldBy before.cabinet line before after
+
+  -- so are the lines of an input, each once and in order
+  abbrev pub AllTold : Deck O → List ℕ → Deck O → Type 0
+  AllTold before input after = FoldsTo LineTold before (lines_of input) after
+
+  -- a whole input: its lines, and the summary of what was counted
+  pub record WholeTold (before : Deck O) (input : List ℕ) (after : Deck O) : Type 0 where
+    pub ended : Deck O
+    pub lines : AllTold before input ended
+    pub summary : Appends (contents ended.out) (contents after.out) (line_text (tally_text ended.tally))

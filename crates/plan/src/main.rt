@@ -1,11 +1,11 @@
 // Plans the routes of a batch of orders: a wiring first, then an order to a line. Each line is answered, and a summary ends the answers.
 #![tactic(auto)]
 
-ghost use Rattle.std.specs.Prelude.{◌≡◌, Some, None, OnOk};
+ghost use Rattle.std.specs.Prelude.{◌≡◌, Some, None, OnOk, IfSome};
 ghost use Rattle.std.specs.Io.KnownBytes.{Appends};
 ghost use Rattle.wiring.specs.Cabinets.{cabinet_shape};
 ghost use Rattle.plan.specs.Tallies.{nothing_counted, one_refused, tally_text};
-ghost use Rattle.plan.specs.Decks.{Printed, LineTold, WiringTold, OrderTold, refused_text, line_text};
+ghost use Rattle.plan.specs.Decks.{Printed, AllTold, WholeTold, LineTold, WiringTold, OrderTold, refused_text, line_text};
 
 use planner::{PlanFault, answer_order, read_wiring};
 use std::alloc::Global;
@@ -56,9 +56,27 @@ impl<O: Write> Deck<O> {
         }
     }
 
+    // Answers a whole input: its lines, and then the summary.
+    fn run<R: BufRead + Drop>(&mut self, input: R) -> io::Result<()>
+        ensures { OnOk result (IfSome (R.remaining input) (λ bytes. WholeTold O.contents self.old bytes self.new)) }
+    {
+        self.answer_all(input)?;
+        self.end()
+    }
+
+    // Answers each line of the input in turn. The last one may lack its newline.
+    fn answer_all<R: BufRead + Drop>(&mut self, input: R) -> io::Result<()>
+        ensures { OnOk result (IfSome (R.remaining input) (λ bytes. AllTold O.contents self.old bytes self.new)) }
+    {
+        for line in input.split(self.heap, b'\n') {
+            self.answer(line?.as_slice())?;
+        }
+        Ok(())
+    }
+
     // Answers a line: the first ones state the wiring, and the others are orders.
     fn answer(&mut self, line: &[u8]) -> io::Result<()>
-        ensures { OnOk result (LineTold O.contents self.old.cabinet line.now self.old self.new) }
+        ensures { OnOk result (LineTold O.contents self.old line.now self.new) }
     {
         match self.cabinet {
             None => self.wire(line),
@@ -111,8 +129,5 @@ impl<O: Write> Deck<O> {
 fn main(rt: HostRuntime) -> io::Result<()> {
     let heap = rt.alloc();
     let mut deck = Deck::new(BufWriter::new(heap, rt.stdout())?, heap);
-    for line in BufReader::new(heap, rt.stdin())?.split(heap, b'\n') {
-        deck.answer(line?.as_slice())?;
-    }
-    deck.end()
+    deck.run(BufReader::new(heap, rt.stdin())?)
 }
