@@ -1,53 +1,91 @@
 // The console of the tree: each line of standard input is answered by one line.
 #![tactic(auto)]
 
-ghost use Rattle.std.specs.Prelude.{[], ◌∷◌, ◌++◌, OnOk};
+ghost use Rattle.std.specs.Prelude.{◌≡◌, [], ◌∷◌, ◌++◌, OnOk, false};
 ghost use Rattle.std.specs.Io.KnownBytes.{Appends};
 ghost use Rattle.session.specs.Answers.{reply_text};
+ghost use Rattle.session.specs.Replies.{HasRoom};
 
-use session::{Answer, Conversation, LineFault, Reply};
+use session::{Answer, Conversation, LONGEST_REPLY, LineFault, Replies, push_reply};
 use std::io;
-use std::io::{BufRead, BufReader, BufWriter, IsTerminal, Write};
+use std::io::{BufRead, BufReader, IsTerminal, Write};
 
 const HELP: &str = "tree LEVELS; then rule LOW HIGH LOWKEY HIGHKEY CLASS (or n), or none; then go; \
     then send CARD T|F ROUTE KEY WORDS, fire CARD u|d l|r|q|p|t, take CARD, owed";
 
-// The lines of a host or a person: where the answers go, and where the words for a person, if one types.
+// The most bytes that are read at once.
+const BLOCK: usize = 65536;
+
+// The lines of a host or a person: the replies that are not written yet, where they go, and where the words for a person, if one types.
 #[derive(Drop)]
 struct Terminal<O, E> {
     conversation: Conversation,
+    replies: Replies,
     out: O,
     aside: Option<E>,
 }
 
 impl<O: Write, E: Write> Terminal<O, E> {
-    // Takes the bytes that came, and writes the answer of each line that they end.
-    fn feed(&mut self, bytes: &[u8]) -> io::Result<()> {
+    // Takes the bytes that came, and writes the reply to each line that they end.
+    fn feed(&mut self, bytes: &[u8]) -> io::Result<()>
+        requires { HasRoom self.old.replies }
+        ensures { OnOk result (HasRoom self.new.replies) }
+    {
         let mut left = bytes;
         while let Some(answer) = self.conversation.feed(&mut left) {
-            self.write(answer)?;
+            if self.hold(answer) {
+                self.tell(answer)?;
+            }
         }
-        self.out.flush()
+        self.write()
     }
 
     // Ends the input: a last line may lack its newline.
-    fn end(&mut self) -> io::Result<()> {
+    fn end(&mut self) -> io::Result<()>
+        requires { HasRoom self.old.replies }
+    {
         if let Some(answer) = self.conversation.end() {
-            self.write(answer)?;
+            if self.hold(answer) {
+                self.tell(answer)?;
+            }
         }
-        self.out.flush()
+        self.write()
     }
 
-    // Writes one line, and for a person what is wrong. That these words cannot be written ends nothing.
-    fn write(&mut self, answer: Result<Answer, LineFault>) -> io::Result<()>
-        ensures text { OnOk result (Appends (O.contents self.old.out) (O.contents self.new.out) (reply_text answer ++ 10 ∷ [])) }
+    // Adds a reply to those that are to be written. They are due where there is no room for one more, or where a person waits for words.
+    fn hold(&mut self, answer: Result<Answer, LineFault>) -> bool
+        requires { HasRoom self.old.replies }
+        ensures text { self.new.replies.items ≡ self.old.replies.items ++ (reply_text answer ++ 10 ∷ []) }
+        ensures out { self.new.out ≡ self.old.out }
+        ensures room { result ≡ false → HasRoom self.new.replies }
     {
-        writeln!(self.out, "{}", Reply(answer))?;
+        push_reply(&mut self.replies, answer);
+        let full = self.replies.remaining_capacity() < LONGEST_REPLY;
+        full || (self.aside.is_some() && answer.is_err())
+    }
+
+    // Writes the replies, and for a person what is wrong. That these words cannot be written ends nothing.
+    #[inline(never)]
+    fn tell(&mut self, answer: Result<Answer, LineFault>) -> io::Result<()>
+        ensures text { OnOk result (Appends (O.contents self.old.out) (O.contents self.new.out) self.old.replies.items) }
+        ensures room { OnOk result (HasRoom self.new.replies) }
+    {
+        self.write()?;
         if let (Some(aside), Err(fault)) = (&mut self.aside, answer) {
-            self.out.flush()?;
             let _ = writeln!(aside, "{fault}");
         }
         Ok(())
+    }
+
+    // Writes the replies that are not written yet.
+    #[inline(never)]
+    fn write(&mut self) -> io::Result<()>
+        ensures text { OnOk result (Appends (O.contents self.old.out) (O.contents self.new.out) self.old.replies.items) }
+        ensures room { OnOk result (HasRoom self.new.replies) }
+    {
+        self.out.write_all(self.replies.as_slice())?;
+        self.replies.clear();
+        self.out.flush()
     }
 }
 
@@ -62,10 +100,11 @@ fn main(rt: HostRuntime) -> io::Result<()> {
     }
     let mut terminal = Terminal {
         conversation: Conversation::new(),
-        out: BufWriter::new(heap, rt.stdout())?,
+        replies: Replies::new(),
+        out: rt.stdout(),
         aside,
     };
-    let mut input = BufReader::new(heap, stdin)?;
+    let mut input = BufReader::with_capacity(heap, BLOCK, stdin)?;
     // What came is answered before more is waited for.
     for _ in 0..u64::MAX {
         let bytes = input.fill_buf()?;

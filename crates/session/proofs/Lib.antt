@@ -1,6 +1,6 @@
 mod Answering
 mod Halfway
-mod Padded
 mod SoFar
+mod Spelling
 mod Standing
 mod Unchanged

@@ -1,15 +1,20 @@
 -- What is printed for a line.
-use Rattle.std.specs.Prelude.{ℕ, ◌-◌, false, List, [], ◌++◌, length, replicate, codes, decimal, Some, None, Option, Ok, Err, Result}
-use Rattle.std.specs.Fmt.{digits}
+use Rattle.std.specs.Prelude.{ℕ, zero, suc, ◌/◌, ◌%◌, false, List, [], ◌∷◌, ◌++◌, codes, decimal, Some, None, Option, Ok, Err, Result}
+use Rattle.std.specs.Fmt.{digit_glyph}
 use Rattle.refusal.specs.declared.answer.Refusal.{Refusal}
 use Rattle.session.specs.declared.answer.Answer.{Answer}
 use Rattle.session.specs.declared.answer.Answer.TheVariants.{Done, Number, Word}
 use Rattle.session.specs.declared.fault.LineFault.{LineFault}
 use Rattle.session.specs.Faults.{line_refusal}
 
--- a word in small hexadecimal digits, with zeros in front up to eight of them
+-- the last k hexadecimal digits of a number, in small letters
+abbrev pub low_digits : ℕ → ℕ → List ℕ
+low_digits zero n = []
+low_digits (suc k) n = low_digits k (n / 16) ++ digit_glyph false (n % 16) ∷ []
+
+-- a word in eight digits
 abbrev pub word_text : ℕ → List ℕ
-word_text w = replicate (8 - length (digits 16 false w)) 48 ++ digits 16 false w
+word_text w = low_digits 8 w
 
 -- what a granted command prints
 abbrev pub answer_text : Answer → List ℕ

@@ -1,5 +1,6 @@
 pub mod Faults
 pub mod Answers
+pub mod Replies
 pub mod Desks
 pub mod Consoles
 pub mod Sessions

@@ -1,0 +1,4 @@
+use Rattle.session.proofs.replies.+push_decimal.Given as goal
+
+abbrev pub decreases-push_decimal : goal.decreases-push_decimal
+decreases-push_decimal l = l.number
