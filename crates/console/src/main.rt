@@ -53,6 +53,7 @@ impl<O: Write, E: Write> Terminal<O, E> {
     }
 
     // Adds a reply to those that are to be written. They are due where there is no room for one more, or where a person waits for words.
+    #[inline(always)]
     fn hold(&mut self, answer: Result<Answer, LineFault>) -> bool
         requires { HasRoom self.old.replies }
         ensures text { self.new.replies.items ≡ self.old.replies.items ++ (reply_text answer ++ 10 ∷ []) }

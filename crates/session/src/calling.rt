@@ -30,6 +30,7 @@ fn fire(
 }
 
 // Makes the call that a command asks for. The other commands are for the parts before.
+#[inline(always)]
 pub(crate) fn call(
     tree: &mut Tree<FullTree, Rulebook>,
     command: Command,

@@ -69,6 +69,7 @@ impl Console {
     }
 
     // Carries out a command, or refuses it and changes nothing.
+    #[inline(always)]
     pub fn obey(&mut self, command: Command) -> Result<Answer, LineFault>
         ensures answer { result ≡ (obeyed (desk_of self.old) (meant command.entry)).answer }
         ensures next { desk_of self.new ≡ (obeyed (desk_of self.old) (meant command.entry)).next }
@@ -92,6 +93,7 @@ impl Console {
     }
 
     // Answers a line, by the command that it says. A line that says none is not understood.
+    #[inline(always)]
     pub fn hear(&mut self, said: Option<Command>) -> Result<Answer, LineFault>
         ensures answer { result ≡ (heard (desk_of self.old) (option_map meant said.entry)).answer }
         ensures next { desk_of self.new ≡ (heard (desk_of self.old) (option_map meant said.entry)).next }

@@ -19,6 +19,7 @@ const MOST_BYTES: usize = 8192;
 pub type Replies = ArrayVec<u8, MOST_BYTES>;
 
 // Adds the reply to a line, its answer or why it is refused, and a newline.
+#[inline(always)]
 pub fn push_reply(replies: &mut Replies, answer: Result<Answer, LineFault>)
     requires { HasRoom replies.old }
     ensures { replies.new.items ≡ replies.old.items ++ (reply_text answer ++ 10 ∷ []) }
