@@ -65,6 +65,7 @@ impl<O: Write> Deck<O> {
     }
 
     // Answers each line of the input in turn. The last one may lack its newline.
+    #[tactic(auto, using(crate::proofs::Answering::starts, crate::proofs::Answering::ends))]
     fn answer_all<R: BufRead + Drop>(&mut self, input: R) -> io::Result<()>
         ensures { OnOk result (IfSome (R.remaining input) (λ bytes. AllTold O.contents self.old bytes self.new)) }
     {
