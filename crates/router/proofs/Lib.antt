@@ -1,3 +1,2 @@
-mod Inside
 mod WayHops
 mod Leading

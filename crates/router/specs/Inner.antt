@@ -1,14 +1,10 @@
 -- What the inner steps hand on.
-use Rattle.std.specs.Prelude.{ℕ, ◌+◌, ◌-◌, min, cond, Some, None, Ok, Err, Option, Result, nat_lt}
+use Rattle.std.specs.Prelude.{ℕ, ◌+◌, ◌-◌, min, Ok, Err, Result}
 use Rattle.refusal.specs.declared.drive.FireFault.{FireFault}
 use Rattle.refusal.specs.declared.send.PacketFault.{PacketFault}
 use Rattle.wiring.specs.Shapes.{Shape}
 use Rattle.routing.specs.Subtrees.{path_hops}
 use Rattle.network.specs.Sends.{Way}
-
--- the card of this number, if there is one
-abbrev pub card_in : Shape → ℕ → Option ℕ
-card_in s c = cond (nat_lt c s.cards) (Some c) None
 
 -- the greatest number that the kept number of hops can be
 abbrev pub greatest : ℕ

@@ -3,39 +3,17 @@
 ghost use Rattle.std.specs.Prelude.{◌≡◌};
 ghost use Rattle.station.specs.Plans.{down_by, judged, downward, planned};
 ghost use Rattle.network.specs.Fires.{located, hold_at, passing};
-ghost use Rattle.router.specs.Inner.{card_in, lowered};
+ghost use Rattle.router.specs.Inner.{lowered};
 ghost use Rattle.router.specs.Kept.{SameParts};
 
 use crate::tree::Tree;
 use licence::{Policy, Verdict};
 use packet::{KeyWord, Side, advance, floods, stops, top_bit};
 use refusal::FireFault;
-use station::{CardId, Channel, Here, Hold, Input, Plan, Station, up_plan};
-use wiring::Wiring;
+use station::{Channel, Here, Hold, Input, Plan, Station, up_plan};
+use wiring::{CardId, Wiring};
 
 impl<W: Wiring, P: Policy> Tree<W, P> {
-    // The card of this number, if the tree has it.
-    #[tactic(auto, using(crate::proofs::Inside::card_inside))]
-    pub(crate) fn card(&self, number: u16) -> Option<CardId>
-        ensures { result ≡ card_in (W.shape self.now.wiring) number }
-    {
-        if number < self.wiring.cards() {
-            Some(CardId::new(number))
-        } else {
-            None
-        }
-    }
-
-    #[tactic(auto, using(crate::proofs::Inside::daughter_inside))]
-    #[inline(always)]
-    fn daughter(&self, card: CardId, side: Side) -> Option<CardId>
-        ensures { result ≡ (W.shape self.now.wiring).daughter side card }
-    {
-        // No closure, in which the bound would not be known.
-        let number = self.wiring.daughter_at(card.number(), side)?;
-        Some(CardId::new(number))
-    }
-
     // The channel at an input.
     #[tactic(auto, unfolding(network::specs::Nodes::input_of, network::specs::Nodes::above, network::specs::Nodes::up_link_from, network::specs::Nodes::down_link_into))]
     #[inline(always)]
@@ -50,13 +28,11 @@ impl<W: Wiring, P: Policy> Tree<W, P> {
         let channel = match (station, input) {
             (Station::Up, Input::Left | Input::Right) => {
                 let side = Side::from(input == Input::Right);
-                self.daughter(card, side).map(Channel::UpLink)
+                self.wiring.daughter_at(card, side).map(Channel::UpLink)
             }
             (Station::Up, Input::Queue) => Some(Channel::Queued(card)),
             (Station::Down, Input::Parent) => {
-                self.wiring
-                    .parent_at(card.number())
-                    .map(|_| Channel::DownLink(card))
+                self.wiring.parent_at(card).map(|_| Channel::DownLink(card))
             }
             (Station::Down, Input::Turn) => Some(Channel::TurnLink(card)),
             (Station::Up, Input::Parent | Input::Turn)
@@ -89,12 +65,12 @@ impl<W: Wiring, P: Policy> Tree<W, P> {
     {
         let (left, right) = match (stops(head), floods(head), top_bit(head)) {
             (true, true, _) => (
-                self.daughter(card, Side::Left),
-                self.daughter(card, Side::Right),
+                self.wiring.daughter_at(card, Side::Left),
+                self.wiring.daughter_at(card, Side::Right),
             ),
             (true, false, _) => (None, None),
-            (false, _, true) => (None, self.daughter(card, Side::Right)),
-            (false, _, false) => (self.daughter(card, Side::Left), None),
+            (false, _, true) => (None, self.wiring.daughter_at(card, Side::Right)),
+            (false, _, false) => (self.wiring.daughter_at(card, Side::Left), None),
         };
         Plan {
             up: false,

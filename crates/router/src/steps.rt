@@ -14,8 +14,8 @@ use licence::Policy;
 use packet::check;
 use refusal::{FireFault, PacketFault, TakeFault};
 use routing::{path_hops, walk_route};
-use station::{CardId, Input, Station};
-use wiring::Wiring;
+use station::{Input, Station};
+use wiring::{CardId, Wiring};
 
 impl<W: Wiring, P: Policy> Tree<W, P> {
     // The way of a packet that may be queued, or why it may not: the packet, its route, and room in the queue, in this order.
@@ -41,7 +41,7 @@ impl<W: Wiring, P: Policy> Tree<W, P> {
         ensures same { SameParts self.old self.new }
         ensures owed { self.new.owed ≡ raised (W.shape self.old.wiring) self.old.owed (length packet.now) (send_way (W.shape self.old.wiring) (length (card_at self.old.table card).queue) card packet.now) }
     {
-        let card = self.card(card).ok_or(PacketFault::NoSender)?;
+        let card = self.wiring.card(card).ok_or(PacketFault::NoSender)?;
         let way = self.way(card, packet)?;
         let hops = path_hops(&self.wiring, way.mode, &way.walk, packet.len() as u16);
         self.table.queue_all(card, packet);
@@ -63,7 +63,7 @@ impl<W: Wiring, P: Policy> Tree<W, P> {
         ensures same { SameParts self.old self.new }
         ensures owed { self.new.owed ≡ lowered self.old.owed result }
     {
-        let card = self.card(card).ok_or(FireFault::NoCard)?;
+        let card = self.wiring.card(card).ok_or(FireFault::NoCard)?;
         let from = self.locate(card, station, input)?;
         let word = self.table.word_at(&from)?;
         self.move_word(card, station, input, from, word)
@@ -76,7 +76,7 @@ impl<W: Wiring, P: Policy> Tree<W, P> {
         ensures same { SameParts self.old self.new }
         ensures owed { self.new.owed ≡ self.old.owed }
     {
-        let card = self.card(card).ok_or(TakeFault::NoReader)?;
+        let card = self.wiring.card(card).ok_or(TakeFault::NoReader)?;
         self.table.take(card).ok_or(TakeFault::InboxEmpty)
     }
 }

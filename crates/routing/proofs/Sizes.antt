@@ -1,5 +1,5 @@
 -- The sizes of subtrees, from those of the daughters' subtrees.
-use Rattle.std.proofs.Common.{◌≡◌, ℕ, zero, suc, List, get_or, replicate, IfSome, ◌+◌, ◌<◌, ◌≤◌, Bool, true, false, cond, eqb, Some, None, Option, sym, refl, ap, ◌∙◌, arith, eq-eqb, ne_eqb}
+use Rattle.std.proofs.Common.{◌≡◌, ℕ, zero, suc, List, get_or, replicate, ◌+◌, ◌<◌, ◌≤◌, Bool, true, false, cond, eqb, Some, None, Option, refl, ap, ◌∙◌, arith, eq-eqb, ne_eqb}
 use Rattle.std.proofs.lemmas.Bool.{false_from_ne_true}
 use native.Mathlib.Decide.{ℕ_discrete}
 use Rattle.packet.specs.declared.sides.Side.{Side}
@@ -85,9 +85,11 @@ module _ (s : Shape) (L : Lawful s) where
   unfolding subtree_size
   no_size c l = count_none s.cards (covers s c) (λ d m. false_from_ne_true _ (λ e. let k = covers_le s L c d e in omega arith))
 
-  pub low_daughter : (b : Side) (c : ℕ) (o : Option ℕ) → o ≡ s.daughter b c → IfSome o (λ d. d < 31)
-  low_daughter b c None e = tt
-  low_daughter b c (Some d) e = let k = daughter_card s L b c d (sym e) in let m = L.few in omega arith
+  pub card_inside : (c : ℕ) → c < s.cards → c < 31
+  card_inside c l = let m = L.few in omega arith
+
+  pub daughter_inside : (b : Side) (c d : ℕ) → s.daughter b c ≡ Some d → d < 31
+  daughter_inside b c d e = let k = daughter_card s L b c d e in card_inside d (omega arith)
 
   -- the size of a daughter's subtree, from where it is kept
   module _ (c : ℕ) (ps : List Place) (above : (d : ℕ) → c < d → get_or ps d nowhere ≡ place_of s d) where
@@ -101,11 +103,10 @@ module _ (s : Shape) (L : Lawful s) where
         by None e = refl
         by (Some d) e = ap (λ (p : Place). p.size) (above d (daughter_card s L b c d e).0)
 
-    pub size_kept : (l r : Option ℕ) (m n : ℕ) → c < s.cards → l ≡ s.daughter Left c → r ≡ s.daughter Right c → m ≡ of_daughter kept l → n ≡ of_daughter kept r →
-        1 + m + n ≡ subtree_size s c
-    size_kept l r m n k p q x y =
-        let x' = x ∙ ap (of_daughter kept) p ∙ kept_size Left in
-        let y' = y ∙ ap (of_daughter kept) q ∙ kept_size Right in
+    pub size_kept : (m n : ℕ) → c < s.cards → m ≡ of_daughter kept (s.daughter Left c) → n ≡ of_daughter kept (s.daughter Right c) → 1 + m + n ≡ subtree_size s c
+    size_kept m n k x y =
+        let x' = x ∙ kept_size Left in
+        let y' = y ∙ kept_size Right in
         let z = size_step c k in
         omega arith
 
@@ -116,7 +117,7 @@ module _ (s : Shape) (L : Lawful s) where
       by None e = e
       by (Some d) e = let k = daughter_card s L b c d e in absurd (omega arith)
 
-  no_parent : (c : ℕ) → s.cards ≤ c → s.parent c ≡ None
+  pub no_parent : (c : ℕ) → s.cards ≤ c → s.parent c ≡ None
   no_parent c l = by (s.parent c) refl
     where
       by : (o : Option (ℕ × Side)) → s.parent c ≡ o → s.parent c ≡ None

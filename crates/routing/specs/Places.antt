@@ -1,9 +1,13 @@
 -- What is kept of each card of a wiring.
-use Rattle.std.specs.Prelude.{ℕ, None}
+use Rattle.std.specs.Prelude.{ℕ, cond, Some, None, Option, nat_lt}
 use Rattle.packet.specs.declared.sides.Side.TheVariants.{Left, Right}
 use Rattle.wiring.specs.Shapes.{Shape}
 use Rattle.routing.specs.declared.measured.Place.{Place}
 use Rattle.routing.specs.Subtrees.{subtree_size}
+
+-- the card of this number, if there is one
+abbrev pub card_in : Shape → ℕ → Option ℕ
+card_in s c = cond (nat_lt c s.cards) (Some c) None
 
 -- a number that is no card
 abbrev pub nowhere : Place

@@ -1,17 +1,17 @@
 // A wiring that was asked once for what is asked of it often.
-ghost use Rattle.std.specs.Prelude.{◌≡◌, ℕ, ◌<◌, IfSome, get_or};
+ghost use Rattle.std.specs.Prelude.{◌≡◌, ℕ, ◌<◌, get_or};
 ghost use Rattle.routing.specs.Subtrees.{of_daughter, subtree_size};
-ghost use Rattle.routing.specs.Places.{nowhere, place_of};
+ghost use Rattle.routing.specs.Places.{card_in, nowhere, place_of};
 
 use packet::Side;
 use std::marker::Model;
-use wiring::Wiring;
+use wiring::{CardId, Wiring};
 
 // What is kept of a card: what it is linked to, and how many cards its subtree has.
 #[derive(Clone, Copy)]
 struct Place {
-    left: Option<u16>,
-    right: Option<u16>,
+    left: Option<CardId>,
+    right: Option<CardId>,
     parent: Option<(u16, Side)>,
     size: u16,
 }
@@ -40,13 +40,22 @@ impl<W: Wiring> Model for Measured<W> {
     ghost invariant = { λ m. (m.cards ≡ (W.shape m.wiring).cards) × ((c : ℕ) → get_or m.places c nowhere ≡ place_of (W.shape m.wiring) c) };
 }
 
-// The size of a daughter's subtree, where it is kept already; 0 where there is no daughter.
-fn size_below(daughter: Option<u16>, places: &[Place; 31]) -> u16
-    requires { IfSome daughter (λ d. d < 31) }
-    ensures { result ≡ of_daughter (λ d. (get_or places.now d nowhere).size) daughter }
+// The daughter of a card on this side.
+#[tactic(auto, using(crate::proofs::Sizes::daughter_inside))]
+fn daughter_of<W: Wiring>(wiring: &W, card: u16, side: Side) -> Option<CardId>
+    ensures { result ≡ (W.shape wiring.now).daughter side card }
 {
-    match daughter {
-        Some(daughter) => places[usize::from(daughter)].size,
+    // No closure, in which the bound would not be known.
+    let number = wiring.daughter(card, side)?;
+    Some(CardId::new(number))
+}
+
+// The size of the subtree of a daughter, where it is kept already; 0 where there is no daughter.
+fn size_below<W: Wiring>(wiring: &W, card: u16, side: Side, places: &[Place; 31]) -> u16
+    ensures { result ≡ of_daughter (λ d. (get_or places.now d nowhere).size) ((W.shape wiring.now).daughter side card) }
+{
+    match daughter_of(wiring, card, side) {
+        Some(daughter) => places[daughter.index()].size,
         None => 0,
     }
 }
@@ -57,13 +66,13 @@ fn place_of<W: Wiring>(wiring: &W, card: u16, places: &[Place; 31]) -> Place
     requires above { (c : ℕ) → card < c → get_or places.now c nowhere ≡ place_of (W.shape wiring.now) c }
     ensures { result ≡ place_of (W.shape wiring.now) card }
 {
-    let left = wiring.daughter(card, Side::Left);
-    let right = wiring.daughter(card, Side::Right);
+    let left = size_below(wiring, card, Side::Left, places);
+    let right = size_below(wiring, card, Side::Right, places);
     Place {
-        left,
-        right,
+        left: daughter_of(wiring, card, Side::Left),
+        right: daughter_of(wiring, card, Side::Right),
         parent: wiring.parent(card),
-        size: 1 + size_below(left, places) + size_below(right, places),
+        size: 1 + left + right,
     }
 }
 
@@ -93,19 +102,30 @@ impl<W: Wiring> Measured<W> {
         }
     }
 
-    // What is kept of a card whose number is known to be below 31, with no test.
+    // The card of this number, if there is one.
+    #[tactic(auto, using(crate::proofs::Sizes::card_inside))]
     #[inline(always)]
-    fn place(&self, card: u16) -> &Place
-        requires { card < 31 }
-        ensures { result.now ≡ place_of (W.shape self.now) card }
+    pub fn card(&self, number: u16) -> Option<CardId>
+        ensures { result ≡ card_in (W.shape self.now) number }
     {
-        &self.places[usize::from(card)]
+        if number < self.cards {
+            Some(CardId::new(number))
+        } else {
+            None
+        }
     }
 
-    // The daughter of such a card on this side.
+    // What is kept of a card.
     #[inline(always)]
-    pub fn daughter_at(&self, card: u16, side: Side) -> Option<u16>
-        requires { card < 31 }
+    fn place(&self, card: CardId) -> &Place
+        ensures { result.now ≡ place_of (W.shape self.now) card }
+    {
+        &self.places[card.index()]
+    }
+
+    // The daughter of a card on this side.
+    #[inline(always)]
+    pub fn daughter_at(&self, card: CardId, side: Side) -> Option<CardId>
         ensures { result ≡ (W.shape self.now).daughter side card }
     {
         let place = self.place(card);
@@ -115,10 +135,9 @@ impl<W: Wiring> Measured<W> {
         }
     }
 
-    // The parent of such a card, and the side of the parent on which the card is.
+    // The parent of a card, and the side of the parent on which the card is.
     #[inline(always)]
-    pub fn parent_at(&self, card: u16) -> Option<(u16, Side)>
-        requires { card < 31 }
+    pub fn parent_at(&self, card: CardId) -> Option<(u16, Side)>
         ensures { result ≡ (W.shape self.now).parent card }
     {
         self.place(card).parent
@@ -129,10 +148,9 @@ impl<W: Wiring> Measured<W> {
     pub fn subtree_size(&self, card: u16) -> u16
         ensures { result ≡ subtree_size (W.shape self.now) card }
     {
-        if card < self.cards {
-            self.place(card).size
-        } else {
-            0
+        match self.card(card) {
+            Some(card) => self.place(card).size,
+            None => 0,
         }
     }
 }
@@ -150,19 +168,13 @@ impl<W: Wiring> Wiring for Measured<W> {
     #[tactic(auto, using(crate::proofs::Sizes::no_daughter))]
     #[inline(always)]
     fn daughter(&self, card: u16, side: Side) -> Option<u16> {
-        if card < self.cards {
-            self.daughter_at(card, side)
-        } else {
-            None
-        }
+        let daughter = self.daughter_at(self.card(card)?, side)?;
+        Some(daughter.number())
     }
 
+    #[tactic(auto, using(crate::proofs::Sizes::no_parent))]
     #[inline(always)]
     fn parent(&self, card: u16) -> Option<(u16, Side)> {
-        if card < self.cards {
-            self.parent_at(card)
-        } else {
-            None
-        }
+        self.parent_at(self.card(card)?)
     }
 }

@@ -2,7 +2,7 @@
 ghost use Rattle.std.specs.Prelude.{◌≡◌};
 ghost use Rattle.station.specs.Channels.{channel_card};
 
-use crate::card_id::CardId;
+use wiring::CardId;
 
 // A card's queue, its up link to its parent, its turn link, and the down link from its parent.
 #[derive(Clone, Copy)]

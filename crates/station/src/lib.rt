@@ -1,12 +1,10 @@
 // One station of a card: how it stands, which word may pass, and what becomes of one that does.
 #![tactic(auto)]
 
-mod card_id;
 mod channel;
 mod hold;
 mod plan;
 
-pub use card_id::CardId;
 pub use channel::Channel;
 pub use hold::{Here, Hold, Input, Station};
 pub use plan::{Plan, up_plan};

@@ -2,9 +2,9 @@
 ghost use Rattle.std.specs.Prelude.{◌≡◌, not};
 ghost use Rattle.station.specs.Plans.{up_by, upward, sum_of};
 
-use crate::card_id::CardId;
 use crate::hold::{Here, Hold, Input};
 use packet::{advance, top_bit};
+use wiring::CardId;
 
 // What one fire writes: a word to the links named, where C names a daughter, and what becomes of the word at the card itself.
 // Up and turn are plain flags and no Options of a word, since all links named get the one word.

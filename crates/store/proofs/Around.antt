@@ -85,13 +85,11 @@ younger_from : (ws : List ℕ) (f g n m : ℕ) → g % 64 ≡ (f + 1) % 64 → n
 younger_from ws f g zero m e h = absurd (omega arith)
 younger_from ws f g (suc n) m e h = let z : m ≡ n = omega arith in rw z (around_same ws g (f + 1) n e)
 
-some_oldest : (ws : List ℕ) (w : ℕ) → oldest ws ≡ Some w → 0 < length ws
-some_oldest [] w e = grind arith
-some_oldest (x ∷ ws) w e = omega arith
-
-pub younger_around : (ws : List ℕ) (t a w : ℕ) → t < 2 ^ 32 → a < 2 ^ 32 → oldest (around ws t (waiting t a)) ≡ Some w →
+pub younger_next : (ws : List ℕ) (t a : ℕ) → t < 2 ^ 32 → a < 2 ^ 32 → t ≢ a →
     around ws ((t + 1) % 2 ^ 32) (waiting ((t + 1) % 2 ^ 32) a) ≡ younger (around ws t (waiting t a))
-younger_around ws t a w l k e =
-    let some = some_oldest _ w e in
-    let long = length-around ws t (waiting t a) in
+younger_next ws t a l k ne =
     younger_from ws t ((t + 1) % 2 ^ 32) (waiting t a) (waiting ((t + 1) % 2 ^ 32) a) (omega arith) (omega arith)
+
+-- an empty ring has no younger words
+pub younger_none : (ws : List ℕ) (t a : ℕ) → t < 2 ^ 32 → t ≡ a → around ws t (waiting t a) ≡ younger (around ws t (waiting t a))
+younger_none ws t a l e = let z : waiting t a ≡ 0 = omega arith in rw z refl

@@ -61,15 +61,27 @@ impl Ring {
         self.added = self.added.wrapping_add(1);
     }
 
-    // The oldest word leaves.
+    // The oldest word leaves, if there is one. One write whether there is or not, so that a processor has no branch to guess.
+    #[inline(always)]
+    pub(crate) fn drop_oldest(&mut self)
+        ensures { self.new ≡ younger self.old }
+    {
+        self.taken = if self.added == self.taken {
+            self.taken
+        } else {
+            self.taken.wrapping_add(1)
+        };
+    }
+
+    // The oldest word leaves, and is told.
     #[inline(always)]
     pub(crate) fn pop(&mut self) -> Option<u32>
         ensures word { result ≡ oldest self.old }
         ensures rest { self.new ≡ younger self.old }
     {
-        let word = self.oldest()?;
-        self.taken = self.taken.wrapping_add(1);
-        Some(word)
+        let word = self.oldest();
+        self.drop_oldest();
+        word
     }
 
     // All these words, behind the others.

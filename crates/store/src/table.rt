@@ -6,9 +6,10 @@ ghost use Rattle.network.specs.Fires.{waits, hold_at, down_taken, link_taken, in
 
 use crate::card::Card;
 use refusal::FireFault;
-use station::{CardId, Channel, Here, Hold, Input, Plan, Station};
+use station::{Channel, Here, Hold, Input, Plan, Station};
 use std::array;
 use std::marker::Model;
+use wiring::CardId;
 
 // Fixed memory, with a place for as many cards as a wiring may have.
 #[derive(Drop)]
@@ -155,9 +156,7 @@ impl Table {
     {
         let card = &mut self.cards[from.card().index()];
         match from {
-            Channel::Queued(_) => {
-                card.queue.pop();
-            }
+            Channel::Queued(_) => card.queue.drop_oldest(),
             Channel::UpLink(_) => card.uplink = None,
             Channel::TurnLink(_) => card.turnlink = None,
             Channel::DownLink(_) => card.downlink = None,

@@ -21,7 +21,7 @@ impl Model for CardId {
 }
 
 impl CardId {
-    // No test: this crate is no entry point, and its callers know by the laws of a wiring that a card's number is below 31.
+    // No test: who calls it knows by the laws of a wiring that a card's number is below 31.
     #[inline(always)]
     pub fn new(number: u16) -> CardId
         requires { number < 31 }
