@@ -90,6 +90,7 @@ fn places<W: Wiring>(wiring: &W) -> [Place; 31]
 }
 
 impl<W: Wiring> Measured<W> {
+    #[inline(always)]
     pub fn new(wiring: W) -> Measured<W>
         ensures { result ≡ wiring }
     {
