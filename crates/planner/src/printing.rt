@@ -29,6 +29,7 @@ impl fmt::Display for Letters {
     }
 }
 
+// A U for each link up.
 fn write_ups<W: fmt::Write>(ups: u16, f: &mut fmt::Formatter<W>) -> fmt::Result
     ensures { DisplaysOnOk W.write_str_gives f.old result (Some (replicate ups 85)) f.new }
 {
@@ -38,6 +39,7 @@ fn write_ups<W: fmt::Write>(ups: u16, f: &mut fmt::Formatter<W>) -> fmt::Result
     Ok(())
 }
 
+// The letter of each descent.
 fn write_sides<W: fmt::Write>(sides: Sides, f: &mut fmt::Formatter<W>) -> fmt::Result
     ensures { DisplaysOnOk W.write_str_gives f.old result (Some (flat_map side_letter (sides_in sides))) f.new }
 {

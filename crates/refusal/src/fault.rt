@@ -31,10 +31,7 @@ impl<F: Fault + Drop> From<F> for Refusal {
 }
 
 // The body of each fault's Display. The derive of thiserror is no way to it: it states nothing of what is printed.
-pub fn write_sentence<F: Fault, W: fmt::Write>(
-    fault: &F,
-    f: &mut fmt::Formatter<W>,
-) -> fmt::Result
+pub fn write_sentence<F: Fault, W: fmt::Write>(fault: &F, f: &mut fmt::Formatter<W>) -> fmt::Result
     ensures { DisplaysOnOk W.write_str_gives f.old result (Some (sentence (F.refusal fault.now) (F.reason fault.now))) f.new }
 {
     write!(f, "{}: {}", fault.refusal(), fault.reason())
