@@ -4,6 +4,7 @@ use Rattle.std.specs.List.{slice_split, onto_first}
 use Rattle.std.proofs.lemmas.Bool.Decides.{nat_tests}
 use Rattle.std.proofs.lemmas.List.{take_all, take-append-le, take_more_set}
 use Rattle.std.proofs.lemmas.List.Splits.{length-slice_split}
+use Rattle.text.proofs.Cutting.{before, before_nothing, before_byte}
 use Rattle.command.specs.Lines.{command_of}
 use Rattle.command.specs.Commands.{Command}
 use Rattle.memchr.specs.Find.{IsFirst, Passes, is_byte}
@@ -47,19 +48,6 @@ more_by p b false e =
 
 cut_more : (p : List ℕ) (b : ℕ) → take 201 (take 201 p ++ b ∷ []) ≡ take 201 (p ++ b ∷ [])
 cut_more p b = more_by p b (leb (length p) 200) refl
-
--- a part of a line before the lines that follow
-abbrev before : List ℕ → List (List ℕ) → List (List ℕ)
-before p [] = p ∷ []
-before p (l ∷ ls) = (p ++ l) ∷ ls
-
-before_nothing : (ls : List (List ℕ)) → 0 < length ls → before [] ls ≡ ls
-before_nothing [] h = absurd (omega arith)
-before_nothing (l ∷ ls) h = refl
-
-before_byte : (p : List ℕ) (b : ℕ) (ls : List (List ℕ)) → before (p ++ b ∷ []) ls ≡ before p (onto_first b ls)
-before_byte p b [] = refl
-before_byte p b (l ∷ ls) = rw append_assoc refl
 
 -- a line that others follow is not left out
 more_lines : (l : List ℕ) (ls : List (List ℕ)) → 0 < length ls → unless_last_empty (l ∷ ls) ≡ l ∷ unless_last_empty ls

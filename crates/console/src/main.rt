@@ -82,7 +82,7 @@ impl<O: Write, E: Write> Terminal<O, E> {
     #[inline(never)]
     fn write(&mut self) -> io::Result<()>
         ensures text { OnOk result (Appends (O.contents self.old.out) (O.contents self.new.out) self.old.replies.items) }
-        ensures room { OnOk result (HasRoom self.new.replies) }
+        ensures none { OnOk result (self.new.replies.items ≡ []) }
     {
         self.out.write_all(self.replies.as_slice())?;
         self.replies.clear();

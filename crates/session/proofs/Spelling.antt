@@ -26,4 +26,6 @@ place_digits n h = length-decimal-le 20 n (omega arith) (omega arith) (omega ari
 
 -- `ok`, a space and the digits that follow
 pub ok_behind : (xs ds : List ℕ) → (((xs ++ 111 ∷ []) ++ 107 ∷ []) ++ 32 ∷ []) ++ ds ≡ xs ++ (codes "ok " ++ ds)
-ok_behind xs ds = rw (append_assoc, append_assoc, append_assoc) refl
+ok_behind xs ds =
+    append_assoc ((xs ++ 111 ∷ []) ++ 107 ∷ []) (32 ∷ []) ds ∙
+    (append_assoc (xs ++ 111 ∷ []) (107 ∷ []) (32 ∷ ds) ∙ append_assoc xs (111 ∷ []) (107 ∷ 32 ∷ ds))

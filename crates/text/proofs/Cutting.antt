@@ -1,27 +1,42 @@
 -- How the first field is cut off a text.
-use Rattle.std.proofs.Common.{◌≡◌, ℕ, ◌+◌, ◌<◌, ◌==◌, false, not, List, [], ◌∷◌, length, take, drop, is_some, Some, None, Option, refl, arith, Bor}
-use Rattle.std.specs.List.{position, position_or_len}
-use Rattle.std.proofs.lemmas.Bool.Decides.{nat_tests}
-use Rattle.std.proofs.lemmas.List.Elements.{All-from_get_or}
-use Rattle.std.proofs.lemmas.List.Sums.{fails_before_first}
-use Rattle.std.proofs.lemmas.List.Splits.{slice_split_first, slice_split_none}
+use Rattle.std.proofs.Common.{◌≡◌, ℕ, ◌+◌, ◌<◌, ◌≤◌, ◌==◌, true, false, not, List, [], ◌∷◌, ◌++◌, length, take, drop, slice_index_or, is_some, Some, None, Option, refl, sym, ◌∙◌, append_assoc, append-nil, arith, Bor}
+use Rattle.std.specs.List.{onto_first}
+use Rattle.std.proofs.lemmas.List.{take_all, drop_all, take_more, drop_more}
 use Rattle.text.specs.Fields.{fields_of, fields_in, none_left}
 use Rattle.text.proofs.Parting.{parted_fields}
 
-found : (bs : List ℕ) (i : ℕ) → Some i ≡ position (λ b. b == 32) bs → (position_or_len (λ b. b == 32) bs ≡ i) × (i < length bs)
-found bs i e = grind (arith, nat_tests)
+-- a part of a text before the fields that follow it: it is the front of the first of them
+abbrev pub before : List ℕ → List (List ℕ) → List (List ℕ)
+before p [] = p ∷ []
+before p (f ∷ fs) = (p ++ f) ∷ fs
 
--- at the first space
-pub cut_here : (bs : List ℕ) (i : ℕ) → Some i ≡ position (λ b. b == 32) bs → fields_of bs ≡ take i bs ∷ fields_of (drop (i + 1) bs)
-cut_here bs i e =
-    let at = found bs i e in
-    rw at.0 at (slice_split_first (λ b. b == 32) bs 0 (omega arith))
+pub before_nothing : (fs : List (List ℕ)) → 0 < length fs → before [] fs ≡ fs
+before_nothing [] h = absurd (omega arith)
+before_nothing (f ∷ fs) h = refl
 
--- where there is no space
-pub cut_nowhere : (bs : List ℕ) → None ≡ position (λ b. b == 32) bs → fields_of bs ≡ bs ∷ []
-cut_nowhere bs e =
-    slice_split_none (λ b. b == 32) bs
-    (All-from_get_or (λ b. (b == 32) ≡ false) bs 0 (λ i h. fails_before_first (λ b. b == 32) bs i 0 (grind (arith, nat_tests))))
+pub before_byte : (p : List ℕ) (b : ℕ) (fs : List (List ℕ)) → before (p ++ b ∷ []) fs ≡ before p (onto_first b fs)
+before_byte p b [] = refl
+before_byte p b (f ∷ fs) = rw append_assoc refl
+
+-- the first i bytes of a text have no space
+abbrev pub NoneYet : List ℕ → ℕ → Type 0
+NoneYet bs i = fields_of bs ≡ before (take i bs) (fields_of (drop i bs))
+
+pub none_at_first : (bs : List ℕ) → NoneYet bs 0
+none_at_first bs = sym (before_nothing (fields_of bs) (parted_fields bs).some)
+
+-- nor has the next one
+pub none_next : (bs : List ℕ) (i : ℕ) → i < length bs → (slice_index_or bs i 0 == 32) ≡ false → NoneYet bs i → NoneYet bs (i + 1)
+none_next bs i h other e =
+    e ∙ rw (drop_more bs i 0 h, take_more bs i 0 h, other) (sym (before_byte (take i bs) (slice_index_or bs i 0) (fields_of (drop (i + 1) bs))))
+
+-- the next one is a space
+pub cut_here : (bs : List ℕ) (i : ℕ) → i < length bs → (slice_index_or bs i 0 == 32) ≡ true → NoneYet bs i → fields_of bs ≡ take i bs ∷ fields_of (drop (i + 1) bs)
+cut_here bs i h space e = e ∙ rw (drop_more bs i 0 h, space, append-nil) refl
+
+-- there is no next one
+pub cut_nowhere : (bs : List ℕ) (i : ℕ) → length bs ≤ i → NoneYet bs i → fields_of bs ≡ bs ∷ []
+cut_nowhere bs i h e = e ∙ rw (drop_all i bs h, take_all i bs h, append-nil) refl
 
 some_left : (fs : List (List ℕ)) → 0 < length fs → none_left fs ≡ false
 some_left [] h = absurd (omega arith)
