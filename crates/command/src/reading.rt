@@ -96,7 +96,7 @@ fn command<'a>(mut fields: Fields, room: &'a mut PacketRoom) -> Option<Command<'
     }
 }
 
-// The command of a line, or none where the line is not understood or has more than 200 bytes.
+// The command of a line, or none where the line is not understood or has more than 200 bytes. It is inlined, so that the command stays in registers.
 #[tactic(auto, using(crate::proofs::Taken::line_takes, crate::proofs::Back::plain_read, crate::proofs::Courses::courses_read))]
 #[inline(always)]
 pub fn read<'a>(line: &[u8], room: &'a mut PacketRoom) -> Option<Command<'a>>

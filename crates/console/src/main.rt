@@ -65,7 +65,8 @@ impl<O: Write, E: Write> Terminal<O, E> {
         full || (self.aside.is_some() && answer.is_err())
     }
 
-    // Writes the replies, and for a person what is wrong. That these words cannot be written ends nothing.
+    // Writes the replies, and for a person what is wrong. This and `write` are not inlined: room for an error would be cleared at every line.
+    // That these words cannot be written ends nothing.
     #[inline(never)]
     fn tell(&mut self, answer: Result<Answer, LineFault>) -> io::Result<()>
         ensures text { OnOk result (Appends (O.contents self.old.out) (O.contents self.new.out) self.old.replies.items) }

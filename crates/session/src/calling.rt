@@ -29,7 +29,7 @@ fn fire(
     Ok(Answer::Number(u32::from(outputs)))
 }
 
-// Makes the call that a command asks for. The other commands are for the parts before.
+// Makes the call that a command asks for. The other commands are for the parts before. It is inlined with `Console::obey`.
 #[inline(always)]
 pub(crate) fn call(
     tree: &mut Tree<FullTree, Rulebook>,

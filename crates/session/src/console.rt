@@ -68,7 +68,7 @@ impl Console {
         }
     }
 
-    // Carries out a command, or refuses it and changes nothing.
+    // Carries out a command, or refuses it and changes nothing. This and `hear` are inlined, so that the command and its answer stay in registers.
     #[inline(always)]
     pub fn obey(&mut self, command: Command) -> Result<Answer, LineFault>
         ensures answer { result ≡ (obeyed (desk_of self.old) (meant command.entry)).answer }

@@ -18,7 +18,7 @@ const MOST_BYTES: usize = 8192;
 // Replies as they are printed, one behind the other. They are spelled here, and not through a formatter, which takes longer than most calls.
 pub type Replies = ArrayVec<u8, MOST_BYTES>;
 
-// Adds the reply to a line, its answer or why it is refused, and a newline.
+// Adds the reply to a line, its answer or why it is refused, and a newline. It is inlined, so that the answer stays in registers.
 #[inline(always)]
 pub fn push_reply(replies: &mut Replies, answer: Result<Answer, LineFault>)
     requires { HasRoom replies.old }
