@@ -5,6 +5,9 @@ ghost use Rattle.std.specs.Prelude.{◌≡◌, [], ◌∷◌, ◌++◌, OnOk, fa
 ghost use Rattle.std.specs.Io.KnownBytes.{Appends};
 ghost use Rattle.session.specs.Answers.{reply_text};
 ghost use Rattle.session.specs.Replies.{HasRoom};
+ghost use Rattle.session.specs.Conversations.{desk_in, replied};
+ghost use Rattle.command.specs.Inputs.{said_last, followed};
+ghost use Rattle.console.specs.Printed.{printed, answered_by};
 
 use session::{Answer, Conversation, LONGEST_REPLY, LineFault, Replies, push_reply};
 use std::io;
@@ -29,7 +32,9 @@ impl<O: Write, E: Write> Terminal<O, E> {
     // Takes the bytes that came, and writes the reply to each line that they end.
     fn feed(&mut self, bytes: &[u8]) -> io::Result<()>
         requires { HasRoom self.old.replies }
-        ensures { OnOk result (HasRoom self.new.replies) }
+        ensures text { OnOk result (Appends (O.contents self.old.out) (O.contents self.new.out)
+            (self.old.replies.items ++ printed (answered_by (desk_in self.old.conversation) self.old.conversation.line bytes.now))) }
+        ensures none { OnOk result (self.new.replies.items ≡ []) }
     {
         let mut left = bytes;
         while let Some(answer) = self.conversation.feed(&mut left) {
@@ -43,6 +48,8 @@ impl<O: Write, E: Write> Terminal<O, E> {
     // Ends the input: a last line may lack its newline.
     fn end(&mut self) -> io::Result<()>
         requires { HasRoom self.old.replies }
+        ensures { OnOk result (Appends (O.contents self.old.out) (O.contents self.new.out)
+            (self.old.replies.items ++ printed (followed (replied (desk_in self.old.conversation) (said_last self.old.conversation.line)) []))) }
     {
         if let Some(answer) = self.conversation.end() {
             if self.hold(answer) {
@@ -58,6 +65,7 @@ impl<O: Write, E: Write> Terminal<O, E> {
         requires { HasRoom self.old.replies }
         ensures text { self.new.replies.items ≡ self.old.replies.items ++ (reply_text answer ++ 10 ∷ []) }
         ensures out { self.new.out ≡ self.old.out }
+        ensures conversation { self.new.conversation ≡ self.old.conversation }
         ensures room { result ≡ false → HasRoom self.new.replies }
     {
         push_reply(&mut self.replies, answer);
@@ -70,7 +78,8 @@ impl<O: Write, E: Write> Terminal<O, E> {
     #[inline(never)]
     fn tell(&mut self, answer: Result<Answer, LineFault>) -> io::Result<()>
         ensures text { OnOk result (Appends (O.contents self.old.out) (O.contents self.new.out) self.old.replies.items) }
-        ensures room { OnOk result (HasRoom self.new.replies) }
+        ensures none { OnOk result (self.new.replies.items ≡ []) }
+        ensures conversation { self.new.conversation ≡ self.old.conversation }
     {
         self.write()?;
         if let (Some(aside), Err(fault)) = (&mut self.aside, answer) {
@@ -84,6 +93,7 @@ impl<O: Write, E: Write> Terminal<O, E> {
     fn write(&mut self) -> io::Result<()>
         ensures text { OnOk result (Appends (O.contents self.old.out) (O.contents self.new.out) self.old.replies.items) }
         ensures none { OnOk result (self.new.replies.items ≡ []) }
+        ensures conversation { self.new.conversation ≡ self.old.conversation }
     {
         self.out.write_all(self.replies.as_slice())?;
         self.replies.clear();
