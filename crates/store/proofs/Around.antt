@@ -90,6 +90,14 @@ pub younger_next : (ws : List ℕ) (t a : ℕ) → t < 2 ^ 32 → a < 2 ^ 32 →
 younger_next ws t a l k ne =
     younger_from ws t ((t + 1) % 2 ^ 32) (waiting t a) (waiting ((t + 1) % 2 ^ 32) a) (omega arith) (omega arith)
 
+-- a ring with an oldest word is not empty
+pub some_oldest : (ws : List ℕ) (t a w : ℕ) → t < 2 ^ 32 → a < 2 ^ 32 → oldest (around ws t (waiting t a)) ≡ Some w → t ≢ a
+some_oldest ws t a w l k e = by _ e (length-around ws t (waiting t a))
+  where
+    by : (vs : List ℕ) → oldest vs ≡ Some w → length vs ≡ waiting t a → t ≢ a
+    by [] e n = grind arith
+    by (v ∷ vs) e n = omega arith
+
 -- an empty ring has no younger words
 pub younger_none : (ws : List ℕ) (t a : ℕ) → t < 2 ^ 32 → t ≡ a → around ws t (waiting t a) ≡ younger (around ws t (waiting t a))
 younger_none ws t a l e = let z : waiting t a ≡ 0 = omega arith in rw z refl

@@ -79,9 +79,9 @@ impl Ring {
         ensures word { result ≡ oldest self.old }
         ensures rest { self.new ≡ younger self.old }
     {
-        let word = self.oldest();
-        self.drop_oldest();
-        word
+        let word = self.oldest()?;
+        self.taken = self.taken.wrapping_add(1);
+        Some(word)
     }
 
     // All these words, behind the others.
