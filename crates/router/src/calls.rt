@@ -49,10 +49,11 @@ impl<W: Wiring, P: Policy> Tree<W, P> {
         ensures same { SameParts self.old self.new }
         ensures laws { Keeps (fire card station input) (tree_of W.shape P.verdict self.old) (tree_of W.shape P.verdict self.new) }
     {
-        // One copy of the step for each station.
-        match station {
-            Station::Up => self.fire_step(card, Station::Up, input),
-            Station::Down => self.fire_step(card, Station::Down, input),
+        // One copy of the step for the up station, and two for the down station, one of them for the words from the parent.
+        match (station, input) {
+            (Station::Up, _) => self.fire_step(card, Station::Up, input),
+            (Station::Down, Input::Parent) => self.fire_step(card, Station::Down, Input::Parent),
+            (Station::Down, _) => self.fire_step(card, Station::Down, input),
         }
     }
 
