@@ -31,7 +31,7 @@ impl Model for LineBuffer {
 }
 
 impl LineBuffer {
-    // An input that is fed to it byte by byte makes the commands of its lines, in order.
+    // An input that is fed to it and then ended makes the commands of its lines, in order.
     #[tactic(auto, using(crate::proofs::Feeding::input_said))]
     pub fn new() -> LineBuffer
         ensures empty { result ≡ [] }

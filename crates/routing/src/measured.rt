@@ -90,6 +90,7 @@ fn places<W: Wiring>(wiring: &W) -> [Place; 31]
 }
 
 impl<W: Wiring> Measured<W> {
+    // Asks the wiring once for each card. It is inlined, since the table would be copied once more.
     #[inline(always)]
     pub fn new(wiring: W) -> Measured<W>
         ensures { result ≡ wiring }

@@ -4,7 +4,9 @@ ghost use Rattle.refusal.specs.Sentences.{sentence};
 ghost use Rattle.session.specs.declared.fault.LineFault.TheVariants.{Tree as LineTree, Rule as LineRule, Packet as LinePacket, Fire as LineFire, Take as LineTake};
 ghost use Rattle.session.specs.Faults.{line_refusal, line_reason};
 
-use refusal::{Fault, FireFault, LicenceFault, PacketFault, Refusal, TakeFault, WiringFault};
+use refusal::{
+    Fault, FireFault, LicenceFault, PacketFault, Refusal, TakeFault, WiringFault, write_sentence,
+};
 use std::fmt;
 
 // A line that is not understood, or the fault of what it asks for, held whole.
@@ -66,10 +68,7 @@ impl Fault for LineFault {
 
     fn refusal(&self) -> Refusal {
         match *self {
-            LineFault::NotUnderstood => Refusal {
-                number: 21,
-                place: None,
-            },
+            LineFault::NotUnderstood => Refusal::of(21),
             LineFault::Tree(fault) => fault.refusal(),
             LineFault::Rule(fault) => fault.refusal(),
             LineFault::Packet(fault) => fault.refusal(),
@@ -95,6 +94,6 @@ impl fmt::Display for LineFault {
     ghost output = { λ fault. Some (sentence (line_refusal fault) (line_reason fault)) };
 
     fn fmt<W: fmt::Write>(&self, f: &mut fmt::Formatter<W>) -> fmt::Result {
-        write!(f, "{}: {}", self.refusal(), self.reason())
+        write_sentence(self, f)
     }
 }
