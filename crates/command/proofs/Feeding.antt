@@ -1,5 +1,5 @@
 -- An input that is read byte by byte says what its lines say.
-use Rattle.std.proofs.Common.{◌≡◌, ℕ, zero, suc, ◌+◌, ◌<◌, ◌≤◌, Bool, true, false, cond, leb, List, [], ◌∷◌, ◌++◌, length, take, drop, map, set, Some, None, Option, refl, sym, ap, ◌∙◌, arith, rules, append_assoc, append-nil, ap₂, length-append, length-take}
+use Rattle.std.proofs.Common.{◌≡◌, ℕ, zero, suc, ◌+◌, ◌<◌, ◌≤◌, Bool, true, false, cond, leb, List, [], ◌∷◌, ◌++◌, length, take, drop, map, set, is_some, Some, None, Option, refl, sym, ap, ◌∙◌, arith, rules, append_assoc, append-nil, ap₂, length-append, length-take}
 use Rattle.std.specs.List.{slice_split, onto_first}
 use Rattle.std.proofs.lemmas.Bool.Decides.{nat_tests}
 use Rattle.std.proofs.lemmas.List.{take_all, take-append-le, take_more_set}
@@ -137,3 +137,25 @@ on_fed kept (b ∷ bs) more =
 pub fed_on : (kept bs more : List ℕ) (said : Option (Option Command)) (kept' left : List ℕ) →
     said ≡ (fed kept bs).said → kept' ≡ (fed kept bs).kept → left ≡ (fed kept bs).left → all_said kept (bs ++ more) ≡ followed said (all_said kept' (left ++ more))
 fed_on kept bs more said kept' left s k l = rw (s, k, l) (on_fed kept bs more)
+
+-- a newline is taken off the bytes
+pub fed_shorter : (kept bs : List ℕ) → is_some (fed kept bs).said ≡ true → length (fed kept bs).left < length bs
+fed_shorter kept [] e = grind arith
+fed_shorter kept (b ∷ bs) e = by (is_newline b) (fed_shorter (kept_with kept b) bs) e
+  where
+    by : (newline : Bool) → (is_some (fed (kept_with kept b) bs).said ≡ true → length (fed (kept_with kept b) bs).left < length bs) →
+        is_some (cond newline (record { said = Some (command_of kept); kept = []; left = bs }) (fed (kept_with kept b) bs)).said ≡ true →
+        length (cond newline (record { said = Some (command_of kept); kept = []; left = bs }) (fed (kept_with kept b) bs)).left < length (b ∷ bs)
+    by true r e = omega arith
+    by false r e = let l = r e in omega arith
+
+-- where there is none, all of them are taken
+pub fed_all : (kept bs : List ℕ) → (fed kept bs).said ≡ None → (fed kept bs).left ≡ []
+fed_all kept [] e = refl
+fed_all kept (b ∷ bs) e = by (is_newline b) (fed_all (kept_with kept b) bs) e
+  where
+    by : (newline : Bool) → ((fed (kept_with kept b) bs).said ≡ None → (fed (kept_with kept b) bs).left ≡ []) →
+        (cond newline (record { said = Some (command_of kept); kept = []; left = bs }) (fed (kept_with kept b) bs)).said ≡ None →
+        (cond newline (record { said = Some (command_of kept); kept = []; left = bs }) (fed (kept_with kept b) bs)).left ≡ []
+    by true r e = grind arith
+    by false r e = r e

@@ -1,5 +1,5 @@
 // The line that is being read.
-ghost use Rattle.std.specs.Prelude.{◌≡◌, ℕ, ◌+◌, ◌≤◌, List, [], ◌∷◌, ◌++◌, map, take, length, IfSome, IfNone, ◌<◌};
+ghost use Rattle.std.specs.Prelude.{◌≡◌, ℕ, ◌+◌, ◌≤◌, List, [], ◌∷◌, ◌++◌, map, take};
 ghost use Rattle.std.specs.Option.{option_map};
 ghost use Rattle.command.specs.Commands.{meant};
 ghost use Rattle.command.specs.Lines.{command_of};
@@ -52,8 +52,6 @@ impl LineBuffer {
         ensures said { option_map (option_map meant) result ≡ (fed self.old input.old.now).said }
         ensures kept { self.new ≡ (fed self.old input.old.now).kept }
         ensures left { input.new.now ≡ (fed self.old input.old.now).left }
-        ensures shorter { IfSome result (λ _. length input.new.now < length input.old.now) }
-        ensures taken { IfNone result (input.new.now ≡ []) }
         ensures onward { (more : List ℕ) → all_said self.old (input.old.now ++ more)
             ≡ followed (option_map (option_map meant) result) (all_said self.new (input.new.now ++ more)) }
     {

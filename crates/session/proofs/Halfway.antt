@@ -1,11 +1,13 @@
 -- An input halfway: the lines that have ended, and what is still to be said.
-use Rattle.std.proofs.Common.{◌≡◌, ℕ, List, [], ◌∷◌, ◌++◌, Some, None, Option, refl, sym, ap, ◌∙◌, append-nil, rules}
+use Rattle.std.proofs.Common.{◌≡◌, ℕ, ◌<◌, true, false, List, [], ◌∷◌, ◌++◌, length, is_some, Some, None, Option, Result, refl, sym, ap, ◌∙◌, append-nil, rules}
 use Rattle.std.proofs.lemmas.List.{append_assoc}
 use Rattle.command.specs.Commands.{Command}
 use Rattle.command.specs.Inputs.{fed, said_last, followed, all_said}
-use Rattle.command.proofs.Feeding.{fed_on}
+use Rattle.command.proofs.Feeding.{fed_on, fed_shorter, fed_all}
+use Rattle.session.specs.declared.answer.Answer.{Answer}
+use Rattle.session.specs.declared.fault.LineFault.{LineFault}
 use Rattle.session.specs.Desks.{Desk}
-use Rattle.session.specs.Conversations.{desk_after, KeepsOnIf}
+use Rattle.session.specs.Conversations.{replied, desk_after, KeepsOnIf}
 use Rattle.session.proofs.SoFar.{SoFar, one_more}
 
 pub record Halfway (said : List (Option Command)) (line rest : List ℕ) (d : Desk) : Type 0 where
@@ -38,3 +40,21 @@ last_line said line left d d' none h s k =
     let e : said ≡ h.ended ++ all_said line [] = h.left ∙ ap (λ r. h.ended ++ all_said line r) none in
     let o = onward said h.ended d d' h.far [] (said_last line) e s k in
     let f : said ≡ o.0 = o.2 ∙ search rules in rw f o.1
+
+-- an answer takes a newline off the bytes
+pub answered_shorter : (d : Desk) (line bs left : List ℕ) (r : Option (Result Answer LineFault)) → is_some r ≡ true →
+    r ≡ replied d (fed line bs).said → left ≡ (fed line bs).left → length left < length bs
+answered_shorter d line bs left r s e l = rw l (fed_shorter line bs (by (fed line bs).said (ap is_some (sym e) ∙ s)))
+  where
+    by : (now : Option (Option Command)) → is_some (replied d now) ≡ true → is_some now ≡ true
+    by None x = x
+    by (Some c) x = refl
+
+-- where there is none, all of them are taken
+pub unanswered_taken : (d : Desk) (line bs left : List ℕ) (r : Option (Result Answer LineFault)) → is_some r ≡ false →
+    r ≡ replied d (fed line bs).said → left ≡ (fed line bs).left → left ≡ []
+unanswered_taken d line bs left r s e l = l ∙ fed_all line bs (by (fed line bs).said (ap is_some (sym e) ∙ s))
+  where
+    by : (now : Option (Option Command)) → is_some (replied d now) ≡ false → now ≡ None
+    by None x = refl
+    by (Some c) x = grind rules

@@ -1,5 +1,5 @@
 mod Answering
-mod Halfway
+pub mod Halfway
 mod SoFar
 mod Spelling
 mod Standing

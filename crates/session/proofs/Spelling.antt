@@ -1,5 +1,5 @@
 -- How numbers are spelled: how long they are, and what stands behind what was there before.
-use Rattle.std.proofs.Common.{◌≡◌, ℕ, ◌+◌, ◌/◌, ◌%◌, ◌^◌, ◌<◌, ◌≤◌, List, [], ◌∷◌, ◌++◌, length, decimal, codes, refl, ap, ◌∙◌, arith, length-append, append_assoc, sym}
+use Rattle.std.proofs.Common.{◌≡◌, ℕ, ◌+◌, ◌/◌, ◌%◌, ◌^◌, ◌<◌, ◌≤◌, List, [], ◌∷◌, ◌++◌, length, decimal, codes, ap, ◌∙◌, arith, length-append, append_assoc, sym}
 use Rattle.std.proofs.lemmas.Fmt.{decimal_digit, decimal_step, length-decimal-le}
 
 pub only_digit : (xs : List ℕ) (n : ℕ) → n < 10 → xs ++ ((48 + n) ∷ []) ≡ xs ++ decimal n

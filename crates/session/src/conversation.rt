@@ -1,5 +1,5 @@
 // The console and its lines: an input is fed in parts, and each line is answered as it ends.
-ghost use Rattle.std.specs.Prelude.{◌≡◌, ◌<◌, ℕ, List, [], ◌++◌, length, IfSome, IfNone};
+ghost use Rattle.std.specs.Prelude.{◌≡◌, ℕ, List, [], ◌++◌};
 ghost use Rattle.command.specs.Inputs.{fed, said_last, all_said, followed};
 ghost use Rattle.session.specs.Desks.{waiting};
 ghost use Rattle.session.specs.Sessions.{StandsBy, after, answers, calls_made};
@@ -40,8 +40,6 @@ impl Conversation {
         ensures line { self.new.line ≡ (fed self.old.line input.old.now).kept }
         ensures left { input.new.now ≡ (fed self.old.line input.old.now).left }
         ensures laws { KeepsOnIf (fed self.old.line input.old.now).said (desk_in self.old) (desk_in self.new) }
-        ensures shorter { IfSome result (λ _. length input.new.now < length input.old.now) }
-        ensures taken { IfNone result (input.new.now ≡ []) }
         ensures onward { (more : List ℕ) → all_answered (desk_in self.old) self.old.line (input.old.now ++ more)
             ≡ followed result (all_answered (desk_in self.new) self.new.line (input.new.now ++ more)) }
     {
