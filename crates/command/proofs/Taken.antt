@@ -9,6 +9,7 @@ use Rattle.command.specs.Names.{mode_named}
 use Rattle.command.specs.Letters.{route_of}
 use Rattle.command.specs.Sizes.{bytes_taken}
 use Rattle.command.proofs.SentWords.{never}
+use Rattle.command.proofs.RouteBits.{read_says_route}
 use Rattle.command.proofs.Naming.{verb_is}
 use Rattle.command.specs.declared.verbs.Verb.TheVariants.{Send}
 use Rattle.command.specs.Verbs.{verb_named}
@@ -38,6 +39,11 @@ pub route_takes : (fs : List (List ℕ)) (r : ℕ) → read_first route_of fs �
 route_takes [] r e = never r e
 route_takes ([] ∷ fs) r e = never r e
 route_takes ((b ∷ f) ∷ fs) r e = omega arith
+
+-- a route that is read has nine bits
+pub route_below : (fs : List (List ℕ)) (r : ℕ) → read_first route_of fs ≡ Some r → r < 512
+route_below [] r e = never r e
+route_below (f ∷ fs) r e = (read_says_route f r e).narrow
 
 -- a key has two
 pub key_takes : (fs : List (List ℕ)) (k : ℕ) → read_first hex_byte_of fs ≡ Some k → bytes_taken (rest_of fs) + 3 ≤ bytes_taken fs

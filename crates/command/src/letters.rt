@@ -2,7 +2,6 @@
 ghost use Rattle.std.specs.Prelude.{◌≡◌, ◌<◌, ◌≤◌, IfSome};
 ghost use Rattle.command.specs.Letters.{letter_bit, letters_from, route_of};
 
-use packet::Route;
 use text::Spelling;
 
 // The bit that a letter writes.
@@ -31,18 +30,18 @@ fn bits(letters: &[u8]) -> Option<u32>
     Some(bits)
 }
 
-// One to nine letters, the first one's bit highest.
+// One to nine letters, the first one's bit highest, as the number of a route's nine bits.
 #[derive(Clone, Copy)]
 pub struct RouteLetters;
 
 impl Spelling for RouteLetters {
-    type Value = Route;
+    type Value = u32;
 
     ghost spells = { route_of };
 
-    fn read(field: &[u8]) -> Option<Route> {
+    fn read(field: &[u8]) -> Option<u32> {
         if (1..=9).contains(&field.len()) {
-            Some(Route::low(bits(field)?))
+            bits(field)
         } else {
             None
         }

@@ -11,7 +11,7 @@ ghost use Rattle.command.specs.Lines.{words_of, send_of};
 use crate::command::{Command, PacketRoom};
 use crate::letters::RouteLetters;
 use crate::names::{FreeWord, ModeName};
-use packet::Head;
+use packet::{Head, Route};
 use text::{Decimal, Fields, HexByte, Spelling};
 
 // A word as it stands in its packet: the tail if no field is left, and a body otherwise.
@@ -35,7 +35,7 @@ fn packet<'a>(
     packet: &'a mut PacketRoom,
 ) -> Option<&'a [u32]>
     requires { bytes_taken (fields_left fields) ≤ 187 }
-    ensures { option_map (λ p. p.now) result ≡ option_map (packet_of head.mode head.route key) (words_of (fields_left fields.entry)) }
+    ensures { option_map (λ p. p.now) result ≡ option_map (packet_of head.mode head.route.bits key) (words_of (fields_left fields.entry)) }
 {
     packet.clear();
     packet.push(u32::from(head));
@@ -48,14 +48,14 @@ fn packet<'a>(
 }
 
 // A card, and the mode, route, key and words of a packet. On a line of 200 bytes 196 are left after `send` and its space, with the line's end counted.
-#[tactic(auto, using(crate::proofs::Taken::decimal_takes, crate::proofs::Taken::mode_takes, crate::proofs::Taken::route_takes, crate::proofs::Taken::key_takes))]
+#[tactic(auto, using(crate::proofs::Taken::decimal_takes, crate::proofs::Taken::mode_takes, crate::proofs::Taken::route_takes, crate::proofs::Taken::route_below, crate::proofs::Taken::key_takes))]
 pub(crate) fn send<'a>(mut fields: Fields, room: &'a mut PacketRoom) -> Option<Command<'a>>
     requires { bytes_taken (fields_left fields) ≤ 196 }
     ensures { option_map meant result ≡ send_of (fields_left fields.entry) }
 {
     let card = fields.read::<Decimal>()?;
     let mode = fields.read::<ModeName>()?;
-    let route = fields.read::<RouteLetters>()?;
+    let route = Route::low(fields.read::<RouteLetters>()?);
     let key = fields.read::<HexByte>()?;
     let packet = packet(Head { mode, route }, key, fields, room)?;
     Some(Command::Send { card, packet })

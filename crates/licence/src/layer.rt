@@ -1,5 +1,6 @@
 // The layer of withdrawn keys.
-ghost use Rattle.std.specs.Prelude.{◌≡◌, true, false};
+ghost use Rattle.std.specs.Prelude.{◌≡◌, true, false, length};
+ghost use Rattle.licence.specs.Keys.{all_keys};
 ghost use Rattle.licence.specs.Layers.{fresh, marked, withdrawn_in, layered};
 ghost use Rattle.std.proofs.Common.{rules};
 
@@ -19,11 +20,15 @@ pub struct Withdrawal<P> {
 
 // Clauses see the policy below and the marks.
 impl<P> Model for Withdrawal<P> {
+    ghost use Rattle.std.specs.Prelude.{◌≡◌, length};
+    ghost use Rattle.licence.specs.Keys.{all_keys};
     ghost use Rattle.licence.specs.Layers.{Layer};
 
     ghost Value = { Layer P };
 
     ghost view = { λ w. record { below = w.policy; marks = w.withdrawn } };
+
+    ghost invariant = { λ w. length w.withdrawn ≡ all_keys };
 }
 
 impl<P: Policy> Withdrawal<P> {
@@ -41,6 +46,7 @@ impl<P: Policy> Withdrawal<P> {
     pub fn withdraw(&mut self, key: u8)
         ensures next { self.new ≡ marked self.old key true }
         ensures again { withdrawn_in self.old key ≡ true → self.new ≡ self.old }
+        ensures read_back { withdrawn_in self.new key ≡ true }
     {
         self.set_mark(key, true);
     }
@@ -49,6 +55,7 @@ impl<P: Policy> Withdrawal<P> {
     pub fn restore(&mut self, key: u8)
         ensures next { self.new ≡ marked self.old key false }
         ensures again { withdrawn_in self.old key ≡ false → self.new ≡ self.old }
+        ensures read_back { withdrawn_in self.new key ≡ false }
     {
         self.set_mark(key, false);
     }
@@ -57,6 +64,7 @@ impl<P: Policy> Withdrawal<P> {
     fn set_mark(&mut self, key: u8, mark: bool)
         ensures next { self.new ≡ marked self.old key mark }
         ensures again { withdrawn_in self.old key ≡ mark → self.new ≡ self.old }
+        ensures read_back { withdrawn_in self.new key ≡ mark }
     {
         let place = usize::from(key);
         self.withdrawn[place] = mark;
@@ -64,7 +72,8 @@ impl<P: Policy> Withdrawal<P> {
 
     // Is the key withdrawn in this layer?
     pub fn is_withdrawn(&self, key: u8) -> bool
-        ensures { result ≡ withdrawn_in self.now key }
+        ensures value { result ≡ withdrawn_in self.now key }
+        ensures whole { length self.now.marks ≡ all_keys }
     {
         self.withdrawn[usize::from(key)]
     }

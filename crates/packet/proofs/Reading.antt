@@ -80,12 +80,12 @@ unfolding before_stop has_one
 before-one [] = refl
 before-one (b ∷ bs) = ap₂ (λ (x : Bool) (r : List Bool). cond x (b ∷ r) []) (one-one bs) (before-one bs)
 
-stop_zero : (k n : ℕ) → n % 2 ≡ 0 → before_stop (bits_from (suc k) n) ≡ before_stop (bits_from k (n / 2))
+pub stop_zero : (k n : ℕ) → n % 2 ≡ 0 → before_stop (bits_from (suc k) n) ≡ before_stop (bits_from k (n / 2))
 stop_zero k n e =
     let z : n / 1 % 2 ≡ 0 = omega arith in
     ap before_stop (bits_last k n) ∙ rw z (before_zero (bits_from k (n / 2)))
 
-stop_one : (k n : ℕ) → n % 2 ≡ 1 → before_stop (bits_from (suc k) n) ≡ bits_from k (n / 2)
+pub stop_one : (k n : ℕ) → n % 2 ≡ 1 → before_stop (bits_from (suc k) n) ≡ bits_from k (n / 2)
 stop_one k n e =
     let z : n / 1 % 2 ≡ 1 = omega arith in
     ap before_stop (bits_last k n) ∙ rw z (before-one (bits_from k (n / 2)))
@@ -106,10 +106,10 @@ stop_read (suc k) (suc t) n l o z =
 pub masked : (k n : ℕ) → k ≤ 8 → n % ((1 * 2 ^ k) % 65536) ≡ n % 2 ^ k
 masked k n l = ap (λ (m : ℕ). n % m) (one_shl k 16 (omega arith))
 
-no_stop : (k n : ℕ) → n % 2 ^ k ≡ 0 → stopped (bits_from k n) ≡ None
+pub no_stop : (k n : ℕ) → n % 2 ^ k ≡ 0 → stopped (bits_from k n) ≡ None
 no_stop k n e = let h : has_one (bits_from k n) ≡ false = has_one_lem k n ∙ ap (λ (m : ℕ). not (eqb m 0)) e in rw h
 
-one_stop : (k n : ℕ) → (n % 2 ^ k ≡ 0 → ⊥) → stopped (bits_from k n) ≡ Some (map side_of (before_stop (bits_from k n)))
+pub one_stop : (k n : ℕ) → (n % 2 ^ k ≡ 0 → ⊥) → stopped (bits_from k n) ≡ Some (map side_of (before_stop (bits_from k n)))
 one_stop k n z = let h : has_one (bits_from k n) ≡ true = has_one_lem k n ∙ ap not (ne_eqb (n % 2 ^ k) 0 z) in rw h
 
 -- the low k bits of n, which `1 << k` masks, have no 1

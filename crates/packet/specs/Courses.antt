@@ -1,7 +1,8 @@
 -- What the structs of a route mean.
-use Rattle.std.specs.Prelude.{cond, List, [], ◌∷◌, map, length, Some, None, Option, nat_lt}
+use Rattle.std.specs.Prelude.{ℕ, cond, List, [], ◌∷◌, map, length, Some, None, Option, nat_lt}
 use Rattle.packet.specs.declared.sides.Side.{Side}
 use Rattle.packet.specs.declared.routes.Sides.{Sides}
+use Rattle.packet.specs.declared.routes.Route.{Route}
 use Rattle.packet.specs.declared.routes.Course.{Course}
 use Rattle.packet.specs.Routes.{Leads, leads, bits_from, side_of, route_room}
 
@@ -19,6 +20,11 @@ course_told (Some c) = Some (course_of c)
 abbrev pub sides_told : Option Sides → Option (List Side)
 sides_told None = None
 sides_told (Some s) = Some (sides_in s)
+
+-- the bits of a route
+abbrev pub route_told : Option Route → Option ℕ
+route_told None = None
+route_told (Some r) = Some r.bits
 
 -- one more side in front, where there is room for it
 abbrev pub sides_before : Side → List Side → Option (List Side)

@@ -64,7 +64,7 @@ abbrev pub header_of : ℕ → Header
 header_of h = record { mode = mode_of h; route = route_in h }
 
 abbrev pub header_read : HeadRead → Header
-header_read h = record { mode = h.mode; route = h.route }
+header_read h = record { mode = h.mode; route = h.route.bits }
 
 abbrev pub header_told : Result HeadRead PacketFault → Result Header PacketFault
 header_told (Ok h) = Ok (header_read h)

@@ -37,7 +37,7 @@ impl Head {
     #[tactic(auto, unfolding(crate::specs::Heads::floods))]
     pub fn read(word: u32) -> Head
         ensures mode { result.mode ≡ mode_of word }
-        ensures route { result.route ≡ route_in word }
+        ensures route { result.route.bits ≡ route_in word }
     {
         let mode = if floods(word) {
             Mode::Flood
@@ -53,7 +53,7 @@ impl Head {
 
 // The head as a word.
 impl From<Head> for u32 {
-    ghost from_gives = { λ head word. word ≡ head_word head.mode head.route };
+    ghost from_gives = { λ head word. word ≡ head_word head.mode head.route.bits };
 
     fn from(head: Head) -> u32 {
         let mode = match head.mode {

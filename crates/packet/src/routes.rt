@@ -1,5 +1,5 @@
 // Routes, and what they ask for. The methods stand in the files below.
-ghost use Rattle.std.specs.Prelude.{ℕ, ◌^◌, ◌<◌, ◌≤◌};
+ghost use Rattle.std.specs.Prelude.{◌^◌, ◌<◌, ◌≤◌};
 
 mod descending;
 mod reading;
@@ -7,22 +7,13 @@ mod writing;
 
 pub use descending::Descents;
 pub use reading::routes_ending_going_up;
-use std::marker::Model;
 
-// A route: nine bits, read from the highest down. A caller sees the number that they make.
+// A route: nine bits, read from the highest down. Clauses read its bits, with no Model: a struct that holds a struct with one is not copied where it is
+// passed by value and used again, and a head and a plan hold a route.
 #[derive(Clone, Copy)]
 pub struct Route {
     bits: u16,
-}
-
-impl Model for Route {
-    ghost Value = { ℕ };
-
-    ghost view = { λ route. route.bits };
-
-    ghost invariant = { λ route. route.bits < 512 };
-
-    ghost inverse = { λ n. record { bits = n } };
+    ghost nine: { bits < 512 },
 }
 
 // The sides of a way down, at most seven: one bit for each, the first one highest. Bits and no Vec, since send uses no heap.

@@ -10,8 +10,8 @@ use Rattle.planner.specs.declared.plans.Plan.{Plan}
 
 -- a plan tells the head that serves the order, where its route leads, how many cards it reaches and the hops of each word
 pub record Plans (s : Shape) (sender : ℕ) (cs : List ℕ) (p : Plan) : Type 0 where
-  pub head : Ordered s sender cs (Ok (head_word p.head.mode p.head.route))
-  pub walk : walk_of s sender p.head.route ≡ Ok p.walk
+  pub head : Ordered s sender cs (Ok (head_word p.head.mode p.head.route.bits))
+  pub walk : walk_of s sender p.head.route.bits ≡ Ok p.walk
   pub reached : p.reached ≡ reach s p.head.mode p.walk.terminus
   pub hops : p.hops ≡ hops_a_word s p.head.mode p.walk
 

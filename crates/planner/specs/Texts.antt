@@ -30,7 +30,7 @@ word_text w = replicate (8 - length (digits 16 false w)) 48 ++ digits 16 false w
 
 -- a head: its word, and the letters of its route
 abbrev pub head_text : Head → List ℕ
-head_text h = codes "head " ++ (word_text (head_word h.mode h.route) ++ (codes ", route " ++ route_letters h.route))
+head_text h = codes "head " ++ (word_text (head_word h.mode h.route.bits) ++ (codes ", route " ++ route_letters h.route.bits))
 
 -- a walk: where it turns and where it ends, and how many links lead there
 abbrev pub walk_text : Walk → List ℕ

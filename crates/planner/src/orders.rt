@@ -10,11 +10,7 @@ use text::{Decimal, Fields};
 use wiring::Wiring;
 
 // The plan of the order that a line states: the sender, then the cards.
-pub fn answer_order<W: Wiring + Copy>(
-    heap: Global,
-    wiring: &W,
-    line: &[u8],
-) -> Result<Plan, PlanFault>
+pub fn answer_order<W: Wiring>(heap: Global, wiring: &W, line: &[u8]) -> Result<Plan, PlanFault>
     ensures { OrderAnswered (W.shape wiring.now) line.now result }
 {
     let mut fields = Fields::new(line);

@@ -4,7 +4,7 @@ ghost use Rattle.planner.specs.Plans.{Planned};
 
 use packet::Head;
 use refusal::OrderFault;
-use routing::{Measured, Walk, cards_reached, hops_a_word, order, walk_route};
+use routing::{Walk, cards_reached, order, walk_route};
 use wiring::Wiring;
 
 // What an order comes to: the head, where its route leads, how many cards it reaches, and the hops of each word.
@@ -17,22 +17,16 @@ pub struct Plan {
 }
 
 // The plan of an order from a sender to these cards.
-pub fn plan_order<W: Wiring + Copy>(
-    wiring: &W,
-    sender: u16,
-    cards: &[u16],
-) -> Result<Plan, OrderFault>
+pub fn plan_order<W: Wiring>(wiring: &W, sender: u16, cards: &[u16]) -> Result<Plan, OrderFault>
     ensures { Planned (W.shape wiring.now) sender cards.now result }
 {
     let head = order(wiring, sender, cards)?;
     let walk = walk_route(wiring, sender, head.route).unwrap();
-    let measured = Measured::new(*wiring);
-    let reached = cards_reached(&measured, head.mode, walk.terminus);
-    let hops = hops_a_word(&measured, head.mode, &walk);
+    let reached = cards_reached(wiring, head.mode, walk.terminus);
     Ok(Plan {
         head,
         walk,
         reached,
-        hops,
+        hops: walk.hops(reached),
     })
 }

@@ -16,7 +16,7 @@ use std::fmt;
 struct Letters(Route);
 
 impl fmt::Display for Letters {
-    ghost output = { λ letters. Some (route_letters letters.0) };
+    ghost output = { λ letters. Some (route_letters letters.0.bits) };
 
     fn fmt<W: fmt::Write>(&self, f: &mut fmt::Formatter<W>) -> fmt::Result {
         let Some(course) = self.0.course() else {

@@ -13,7 +13,7 @@ use crate::way::Way;
 use licence::Policy;
 use packet::check;
 use refusal::{FireFault, PacketFault, TakeFault};
-use routing::{path_hops, walk_route};
+use routing::walk_route;
 use station::{Input, Station};
 use wiring::{CardId, Wiring};
 
@@ -43,7 +43,9 @@ impl<W: Wiring, P: Policy> Tree<W, P> {
     {
         let card = self.wiring.card(card).ok_or(PacketFault::NoSender)?;
         let way = self.way(card, packet)?;
-        let hops = path_hops(&self.wiring, way.mode, &way.walk, packet.len() as u16);
+        let hops = self
+            .wiring
+            .path_hops(way.mode, &way.walk, packet.len() as u16);
         self.table.queue_all(card, packet);
         let owed = u64::from(self.owed).saturating_add(hops);
         self.owed = u32::try_from(owed).unwrap_or(u32::MAX);

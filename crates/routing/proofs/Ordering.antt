@@ -87,5 +87,5 @@ module _ (s : Shape) (L : Lawful s) (c : ℕ) (cs : List ℕ) (l : 0 < length cs
 
     -- the answer where all are cards and one is listed: the head, or that there is none
     pub answered : (m : Mode) (a : Option Head) → m ≡ mode_for (get_or cs 0 0 ∷ rest cs) → HeadTo s c t m (head_in a) → Ordered s c cs (head_told (ok_or a TooLong))
-    answered m (Some h) q w = (there, served (head_word h.mode h.route) m q w)
+    answered m (Some h) q w = (there, served (head_word h.mode h.route.bits) m q w)
     answered m None q w = (there, record { terminus = t; lowest = lowest_listed; far = w })

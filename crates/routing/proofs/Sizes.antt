@@ -1,11 +1,10 @@
 -- The sizes of subtrees, from those of the daughters' subtrees.
-use Rattle.std.proofs.Common.{◌≡◌, ℕ, zero, suc, List, get_or, replicate, ◌+◌, ◌<◌, ◌≤◌, Bool, true, false, cond, eqb, Some, None, Option, refl, ap, ◌∙◌, arith, eq-eqb, ne_eqb}
+use Rattle.std.proofs.Common.{◌≡◌, ℕ, zero, suc, get_or, replicate, ◌+◌, ◌<◌, ◌≤◌, Bool, true, false, cond, eqb, Some, None, Option, refl, ◌∙◌, arith, eq-eqb, ne_eqb}
 use Rattle.std.proofs.lemmas.Bool.{false_from_ne_true}
 use native.Mathlib.Decide.{ℕ_discrete}
 use Rattle.packet.specs.declared.sides.Side.{Side}
 use Rattle.packet.specs.declared.sides.Side.TheVariants.{Left, Right}
 use Rattle.wiring.specs.Shapes.{Shape, Lawful}
-use Rattle.routing.specs.declared.measured.Place.{Place}
 use Rattle.routing.specs.Subtrees.{of_daughter, covers, count_below, subtree_size}
 use Rattle.routing.specs.Places.{nowhere, place_of}
 use Rattle.routing.proofs.Subtree.{covers_le}
@@ -52,11 +51,11 @@ none_of_daughter : (o : Option ℕ) → of_daughter (λ d. 0) o ≡ 0
 none_of_daughter None = refl
 none_of_daughter (Some d) = refl
 
--- no place is kept yet
-pub blank : (n c : ℕ) → get_or (replicate n nowhere) c nowhere ≡ nowhere
-blank zero c = refl
-blank (suc n) zero = refl
-blank (suc n) (suc c) = blank n c
+-- nothing is kept yet
+pub blank : {A : Type 0} (x : A) (n c : ℕ) → get_or (replicate n x) c x ≡ x
+blank x zero c = refl
+blank x (suc n) zero = refl
+blank x (suc n) (suc c) = blank x n c
 
 module _ (s : Shape) (L : Lawful s) where
   abbrev part : ℕ → ℕ → ℕ
@@ -92,16 +91,13 @@ module _ (s : Shape) (L : Lawful s) where
   daughter_inside b c d e = let k = daughter_card s L b c d e in card_inside d (omega arith)
 
   -- the size of a daughter's subtree, from where it is kept
-  module _ (c : ℕ) (ps : List Place) (above : (d : ℕ) → c < d → get_or ps d nowhere ≡ place_of s d) where
-    abbrev kept : ℕ → ℕ
-    kept d = (get_or ps d nowhere).size
-
+  module _ (c : ℕ) (kept : ℕ → ℕ) (above : (d : ℕ) → c < d → kept d ≡ subtree_size s d) where
     kept_size : (b : Side) → of_daughter kept (s.daughter b c) ≡ of_daughter (subtree_size s) (s.daughter b c)
     kept_size b = by (s.daughter b c) refl
       where
         by : (o : Option ℕ) → s.daughter b c ≡ o → of_daughter kept o ≡ of_daughter (subtree_size s) o
         by None e = refl
-        by (Some d) e = ap (λ (p : Place). p.size) (above d (daughter_card s L b c d e).0)
+        by (Some d) e = above d (daughter_card s L b c d e).0
 
     pub size_kept : (m n : ℕ) → c < s.cards → m ≡ of_daughter kept (s.daughter Left c) → n ≡ of_daughter kept (s.daughter Right c) → 1 + m + n ≡ subtree_size s c
     size_kept m n k x y =

@@ -77,7 +77,7 @@ Ordered s c cs (Err NoneListed) = (all_there s (c ∷ cs) ≡ true) × (cs ≡ [
 Ordered s c cs (Err TooLong) = (all_there s (c ∷ cs) ≡ true) × Unserved s c cs
 
 abbrev pub head_told : Result Head OrderFault → Result ℕ OrderFault
-head_told (Ok h) = Ok (head_word h.mode h.route)
+head_told (Ok h) = Ok (head_word h.mode h.route.bits)
 head_told (Err f) = Err f
 
 -- the steps of the maker: a way down, a course, a head, or that a route has no room for it
@@ -95,4 +95,4 @@ HeadTo s c t m None = TooFar s c t
 
 abbrev pub head_in : Option Head → Option ℕ
 head_in None = None
-head_in (Some h) = Some (head_word h.mode h.route)
+head_in (Some h) = Some (head_word h.mode h.route.bits)

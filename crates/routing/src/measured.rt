@@ -1,9 +1,10 @@
 // A wiring that was asked once for what is asked of it often.
 ghost use Rattle.std.specs.Prelude.{◌≡◌, ℕ, ◌<◌, get_or};
-ghost use Rattle.routing.specs.Subtrees.{of_daughter, subtree_size};
+ghost use Rattle.routing.specs.Subtrees.{of_daughter, subtree_size, reach, path_hops};
 ghost use Rattle.routing.specs.Places.{card_in, nowhere, place_of};
 
-use packet::Side;
+use crate::walks::Walk;
+use packet::{Mode, Side};
 use std::marker::Model;
 use wiring::{CardId, Wiring};
 
@@ -154,6 +155,23 @@ impl<W: Wiring> Measured<W> {
             Some(card) => self.place(card).size,
             None => 0,
         }
+    }
+
+    // How many cards a packet of this mode and terminus reaches.
+    pub fn cards_reached(&self, mode: Mode, terminus: u16) -> u16
+        ensures { result ≡ reach (W.shape self.now) mode terminus }
+    {
+        match mode {
+            Mode::Target => 1,
+            Mode::Flood => self.subtree_size(terminus),
+        }
+    }
+
+    // The path hops of a packet of so many words on this walk.
+    pub fn path_hops(&self, mode: Mode, walk: &Walk, words: u16) -> u64
+        ensures { result ≡ path_hops (W.shape self.now) mode walk.now words }
+    {
+        u64::from(words) * u64::from(walk.hops(self.cards_reached(mode, walk.terminus)))
     }
 }
 

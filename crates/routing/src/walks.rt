@@ -1,5 +1,5 @@
 // The walk of a route over any wiring: up, the turn, and down to the terminus.
-ghost use Rattle.std.specs.Prelude.{◌≡◌, ℕ};
+ghost use Rattle.std.specs.Prelude.{◌≡◌, ◌+◌, ℕ};
 ghost use Rattle.packet.specs.Courses.{sides_in};
 ghost use Rattle.routing.specs.Walks.{climb, descend, walk_of};
 
@@ -15,6 +15,16 @@ pub struct Walk {
     pub terminus: u16,
     pub ups: u16,
     pub descents: u16,
+}
+
+impl Walk {
+    // The stations that each word of a packet passes that reaches so many cards: an up station for each link up and at the turn, a down
+    // station for each link down, and one on each card.
+    pub fn hops(&self, reached: u16) -> u32
+        ensures { result ≡ self.now.ups + 1 + self.now.descents + reached }
+    {
+        u32::from(self.ups) + 1 + u32::from(self.descents) + u32::from(reached)
+    }
 }
 
 // The card so many links above this one.
@@ -40,7 +50,7 @@ fn descended<W: Wiring>(wiring: &W, card: u16, sides: Sides) -> Result<u16, Rout
 
 // Where the route leads from this card, or why it leads nowhere.
 pub fn walk_route<W: Wiring>(wiring: &W, card: u16, route: Route) -> Result<Walk, RouteFault>
-    ensures { result ≡ walk_of (W.shape wiring.now) card route }
+    ensures { result ≡ walk_of (W.shape wiring.now) card route.bits }
 {
     let Course { ups, sides } = route.course().ok_or(RouteFault::EndsGoingUp { card })?;
     let turn = climbed(wiring, card, ups).ok_or(RouteFault::AboveRoot)?;

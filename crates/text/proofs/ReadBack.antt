@@ -65,7 +65,7 @@ module _ (base : ℕ) (c : Bool) (low : 2 ≤ base) (high : base ≤ 16) where
       let front = spelled_some k (n / base) (digit_glyph c (n % base) ∷ acc) in
       elim (eqb (n / base) 0) as (λ t. length acc < length (cond t (digit_glyph c (n % base) ∷ acc) (digits_onto (suc k) base c (n / base) (digit_glyph c (n % base) ∷ acc)))) [ true ↦ omega arith | false ↦ omega arith ]
 
-plain_back : (base most : ℕ) → 2 ≤ base → base ≤ 16 → most ≤ 64 → 1 ≤ most → (c : Bool) → ReadsBack (number_of base 1 most) (plain_text base c) (base ^ most)
+pub plain_back : (base most : ℕ) → 2 ≤ base → base ≤ 16 → most ≤ 64 → 1 ≤ most → (c : Bool) → ReadsBack (number_of base 1 most) (plain_text base c) (base ^ most)
 unfolding digits
 plain_back base zero low high l some c n h = absurd (omega arith)
 plain_back base (suc m) low high l some c n h =

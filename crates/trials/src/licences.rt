@@ -3,6 +3,7 @@ ghost use Rattle.std.specs.Prelude.{◌≡◌};
 ghost use Rattle.licence.specs.Rules.{rule_in};
 ghost use Rattle.licence.specs.Ranges.{in_range};
 ghost use Rattle.licence.specs.Patterns.{in_pattern};
+ghost use Rattle.licence.specs.declared.verdict.Verdict.TheVariants.{Refuse};
 
 use crate::answers::number_of;
 use licence::{Book, KeyPattern, PatternRule, Policy, RangeRule, Rule, Span, Verdict, Withdrawal};
@@ -48,6 +49,14 @@ fn pattern_covers(rule: &PatternRule, card: u16, key: u8) -> bool
     ensures { result ≡ in_pattern (rule_in rule.now) card key }
 {
     rule.covers(card, key)
+}
+
+// Of a layer that is only lent a caller knows, too, that the key is refused from now on.
+fn withdrawn<P: Policy>(layer: &mut Withdrawal<P>, card: u16, key: u8) -> Verdict
+    ensures { result ≡ Refuse }
+{
+    layer.withdraw(key);
+    layer.ask(card, key)
 }
 
 #[test]
@@ -131,5 +140,6 @@ fn layers_stack_over_a_book(rt: HostRuntime) -> Result<(), Fail> {
             &[(2, 0x07, Verdict::Refuse), (2, 0x09, Verdict::Class(3))]
         )
     );
+    assert!(rt; withdrawn(&mut layers, 0, 0x05) == Verdict::Refuse);
     Ok(())
 }

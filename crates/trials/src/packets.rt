@@ -21,6 +21,8 @@ fn two_up_then_right(rt: HostRuntime) -> Result<(), Fail> {
     };
     assert_eq!(rt; u16::from(route), 0x1b0);
     assert_eq!(rt; u32::from(head), 0xa000_01b0);
+    // a head may be used again
+    assert_eq!(rt; u16::from(head.route), 0x1b0);
     Ok(())
 }
 

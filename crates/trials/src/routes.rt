@@ -54,7 +54,7 @@ fn orders_made_and_refused(rt: HostRuntime) -> Result<(), Fail> {
 // The turn, the terminus and the hops of four flooding words, or the refusal.
 fn walked(tree: &FullTree, card: u16, route: u32) -> Result<(u16, u16, u64), Refusal> {
     let walk = walk_route(tree, card, Route::low(route))?;
-    let hops = path_hops(&Measured::new(*tree), Mode::Flood, &walk, 4);
+    let hops = path_hops(tree, Mode::Flood, &walk, 4);
     Ok((walk.turn, walk.terminus, hops))
 }
 

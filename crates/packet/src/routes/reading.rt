@@ -8,7 +8,7 @@ use super::{Course, Route, Sides};
 impl Route {
     // The route in the low nine bits of a word. The others are dropped, so this is no From.
     pub fn low(word: u32) -> Route
-        ensures { result ≡ route_in word }
+        ensures { result.bits ≡ route_in word }
     {
         Route {
             bits: (word % 512) as u16,
@@ -18,7 +18,7 @@ impl Route {
     // What the route asks for, or none where it ends on the way up.
     #[tactic(auto, unfolding(crate::specs::Routes::read_route, crate::specs::Routes::read_bits))]
     pub fn course(self) -> Option<Course>
-        ensures { course_told result ≡ read_route self }
+        ensures { course_told result ≡ read_route self.bits }
     {
         let ups = self.ups();
         let sides = sides_before_stop(self.bits, 8u16.saturating_sub(ups))?;
@@ -28,8 +28,8 @@ impl Route {
     // How many 1s stand before the first 0, the turn: the nine bits are moved to the top of sixteen.
     #[tactic(auto, using(crate::proofs::Reading::route_read), unfolding(crate::specs::Routes::route_bits))]
     fn ups(self) -> u16
-        ensures value { result ≡ ups_of (route_bits self) }
-        ensures below { after_turn (route_bits self) ≡ bits_from (8 - result) self }
+        ensures value { result ≡ ups_of (route_bits self.bits) }
+        ensures below { after_turn (route_bits self.bits) ≡ bits_from (8 - result) self.bits }
     {
         (self.bits << 7).leading_ones() as u16
     }
@@ -37,7 +37,7 @@ impl Route {
 
 // The nine bits as a number.
 impl From<Route> for u16 {
-    ghost from_gives = { λ route bits. (bits ≡ route) × (bits < 512) };
+    ghost from_gives = { λ route bits. (bits ≡ route.bits) × (bits < 512) };
 
     fn from(route: Route) -> u16 {
         route.bits

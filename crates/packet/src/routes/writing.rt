@@ -1,7 +1,7 @@
 // A route written for what it is to ask for.
 ghost use Rattle.std.specs.Prelude.{◌≡◌, ◌<◌, [], length, Some, IfSome};
 ghost use Rattle.packet.specs.Routes.{write_route, read_route};
-ghost use Rattle.packet.specs.Courses.{sides_in, sides_told, sides_before, split_sides, split_told, course_of};
+ghost use Rattle.packet.specs.Courses.{sides_in, sides_told, sides_before, split_sides, split_told, course_of, route_told};
 
 use super::{Course, Route, Sides};
 use crate::sides::Side;
@@ -64,9 +64,9 @@ impl Course {
     // The route that asks for this, or none where its nine bits do not suffice.
     #[tactic(auto, using(crate::proofs::Writing::route_summed))]
     pub fn route(self) -> Option<Route>
-        ensures value { result ≡ write_route (course_of self) }
-        ensures nine { IfSome result (λ r. r < 512) }
-        ensures back { IfSome result (λ r. read_route r ≡ Some (course_of self)) }
+        ensures value { route_told result ≡ write_route (course_of self) }
+        ensures nine { IfSome result (λ r. r.bits < 512) }
+        ensures back { IfSome result (λ r. read_route r.bits ≡ Some (course_of self)) }
     {
         let Course { ups, sides } = self;
         if ups > 7 || sides.count > 7 - ups {

@@ -10,7 +10,7 @@ use Rattle.command.proofs.sending.packet.Given as goal
 -- the words so far and those to come are those of the packet, and they have room
 abbrev pub invariant-loop-field : goal.invariant-loop-field
 invariant-loop-field l = record {
-  rest : onward l.packet.items (fields_left l.fields) ≡ onward (head_word l.fn.head.mode l.fn.head.route ∷ word_kinded (none_left (fields_left l.fn.fields)) l.fn.key ∷ []) (fields_left l.fn.fields);
+  rest : onward l.packet.items (fields_left l.fields) ≡ onward (head_word l.fn.head.mode l.fn.head.route.bits ∷ word_kinded (none_left (fields_left l.fn.fields)) l.fn.key ∷ []) (fields_left l.fn.fields);
   room : 2 * array_vec_len l.packet + bytes_taken (fields_left l.fields) ≤ 191;
 }
 

@@ -1,4 +1,6 @@
-use Rattle.std.proofs.Common.{arith}
+use Rattle.std.proofs.Common.{get_or, ap, arith}
+use Rattle.routing.specs.declared.measured.Place.{Place}
+use Rattle.routing.specs.Places.{nowhere}
 use Rattle.routing.proofs.Sizes.{size_few, size_kept}
 use Rattle.routing.proofs.measured.place_of.Goals as goal
 
@@ -6,7 +8,7 @@ pub overflow_add-result : goal.overflow_add-result
 overflow_add-result g c =
     let s = g.W.Wiring.shape c.args.wiring.now in
     let L = g.met.W.Wiring.lawful c.args.wiring.now in
-    let e = size_kept s L c.args.card c.args.places.now c.requires.above _ _ c.requires.known c.size_below-left.ensures c.size_below-right.ensures in
+    let e = size_kept s L c.args.card (λ d. (get_or c.args.places.now d nowhere).size) (λ d l. ap (λ (p : Place). p.size) (c.requires.above d l)) _ _ c.requires.known c.size_below-left.ensures c.size_below-right.ensures in
     let f = size_few s L c.args.card in
     record { fits = omega arith }
 
@@ -14,7 +16,7 @@ pub overflow_add-result-2 : goal.overflow_add-result-2
 overflow_add-result-2 g c =
     let s = g.W.Wiring.shape c.args.wiring.now in
     let L = g.met.W.Wiring.lawful c.args.wiring.now in
-    let e = size_kept s L c.args.card c.args.places.now c.requires.above _ _ c.requires.known c.size_below-left.ensures c.size_below-right.ensures in
+    let e = size_kept s L c.args.card (λ d. (get_or c.args.places.now d nowhere).size) (λ d l. ap (λ (p : Place). p.size) (c.requires.above d l)) _ _ c.requires.known c.size_below-left.ensures c.size_below-right.ensures in
     let f = size_few s L c.args.card in
     record { fits = omega arith }
 
@@ -22,5 +24,5 @@ pub returns : goal.returns
 returns g c =
     let s = g.W.Wiring.shape c.args.wiring.now in
     let L = g.met.W.Wiring.lawful c.args.wiring.now in
-    let e = size_kept s L c.args.card c.args.places.now c.requires.above _ _ c.requires.known c.size_below-left.ensures c.size_below-right.ensures in
+    let e = size_kept s L c.args.card (λ d. (get_or c.args.places.now d nowhere).size) (λ d l. ap (λ (p : Place). p.size) (c.requires.above d l)) _ _ c.requires.known c.size_below-left.ensures c.size_below-right.ensures in
     cc

@@ -7,4 +7,4 @@ loop-card-init g c =
     let s = g.W.Wiring.shape c.args.wiring.now in
     let L = g.met.W.Wiring.lawful c.args.wiring.now in
     let e = c.cards-card.ensures in
-    (omega arith, refl, λ d l. blank 31 d ∙ sym (no_place s L d (omega arith)))
+    (omega arith, refl, λ d l. blank _ 31 d ∙ sym (no_place s L d (omega arith)))
