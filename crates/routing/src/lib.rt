@@ -10,6 +10,6 @@ mod worked;
 
 pub use measured::Measured;
 pub use orders::order;
-pub use subtrees::{cards_reached, hops_a_word, path_hops, stands_over};
+pub use subtrees::{cards_reached, hops_a_word, path_hops, stands_over, subtree_size};
 pub use walks::{Walk, walk_route};
 pub use worked::worked_routes;
